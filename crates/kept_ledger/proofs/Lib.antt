@@ -9,4 +9,3 @@ pub mod Undone
 pub mod Reading
 pub mod ReadRows
 pub mod TermsBack
-pub mod LastEvents

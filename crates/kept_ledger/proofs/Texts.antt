@@ -16,7 +16,6 @@ use Rattle.sqlite.specs.Listing.{understood, reads_listing, listing_schema}
 use Rattle.sqlite.proofs.Callers.{IsPlain, command_of, statement_of}
 pub use Rattle.kept_ledger.specs.Table.{read_text, read_terms_text}
 pub use Rattle.kept_ledger.specs.Statements.{make_events_text, make_book_text, add_terms_text, add_text, begin_text, end_text}
-pub use Rattle.kept_ledger.specs.Timed.{last_text}
 use Rattle.kept_ledger.specs.Table.{event_table, book_defined, ledger_schema, event_schema, no_schema}
 
 -- ---- the texts
@@ -55,22 +54,11 @@ terms_query = record {
   offset = lit (Int (pos 0));
 }
 
--- the last places first, up to so many as the parameter says; the time comes last
-abbrev pub last_query : Query
-last_query = record query {
-  project = col 1 0 ∷ col 1 3 ∷ col 1 4 ∷ col 1 5 ∷ col 1 6 ∷ col 1 7 ∷ col 1 8 ∷ col 1 9 ∷ col 1 10 ∷ col 1 11 ∷ col 1 12 ∷ col 1 13 ∷ col 1 14 ∷ col 1 15 ∷ col 1 16 ∷ col 1 17 ∷ col 1 18 ∷ col 1 19 ∷ col 1 20 ∷ col 1 21 ∷ col 1 2 ∷ [];
-  order = (col 1 0, record { collation = Binary; descending = true }) ∷ [];
-  limit = col 0 0;
-}
-
 abbrev pub terms_names : List (List ℕ)
 terms_names = codes "format" ∷ codes "journal" ∷ codes "budget" ∷ codes "last_id" ∷ codes "last_serial" ∷ codes "devices" ∷ []
 
 abbrev pub names : List (List ℕ)
 names = codes "place" ∷ codes "serial" ∷ codes "prog" ∷ codes "verb" ∷ codes "map" ∷ codes "key" ∷ codes "value" ∷ codes "flag" ∷ codes "at" ∷ codes "size" ∷ codes "op" ∷ codes "target" ∷ codes "name" ∷ codes "path" ∷ codes "type" ∷ codes "key_size" ∷ codes "value_size" ∷ codes "entries" ∷ codes "flags" ∷ codes "code" ∷ []
-
-abbrev pub last_names : List (List ℕ)
-last_names = codes "place" ∷ codes "serial" ∷ codes "prog" ∷ codes "verb" ∷ codes "map" ∷ codes "key" ∷ codes "value" ∷ codes "flag" ∷ codes "at" ∷ codes "size" ∷ codes "op" ∷ codes "target" ∷ codes "name" ∷ codes "path" ∷ codes "type" ∷ codes "key_size" ∷ codes "value_size" ∷ codes "entries" ∷ codes "flags" ∷ codes "code" ∷ codes "time" ∷ []
 
 pub make_events_is : (command_of (understood no_schema make_events_text) ≡ CreateTable) × (statement_of make_events_text (understood no_schema make_events_text) ≡ make_events_text) × (table_defined_by make_events_text ≡ Ok event_table)
 unfolding understood everything
@@ -95,11 +83,6 @@ read_terms_is = (refl, refl)
 pub read_is : (command_of (understood ledger_schema read_text) ≡ Select (record { lets = []; body = query }) names) × (reads_listing ledger_schema read_text ≡ false)
 unfolding understood everything
 read_is = (refl, refl)
-
-pub last_is : (command_of (understood ledger_schema last_text) ≡ Select (record { lets = []; body = last_query }) last_names) × (reads_listing ledger_schema last_text ≡ false)
-    × IsPlain (understood ledger_schema last_text) × (is_err (understood no_schema last_text) ≡ true)
-unfolding understood listing_schema everything
-last_is = (refl, refl, (refl, refl), refl)
 
 -- these mean the same whatever the tables
 pub begin_is : (schema : Schema) → command_of (understood schema begin_text) ≡ Begin

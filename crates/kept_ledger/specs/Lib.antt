@@ -7,4 +7,3 @@ pub mod TermsRow
 pub mod TermsRead
 pub mod Ledger
 pub mod Rows
-pub mod Timed

@@ -5,8 +5,8 @@ ghost use Rattle.kept_ledger.specs.Ledger.{Entry, IsKept, AreKept, shown, shown_
 ghost use Rattle.kept_ledger.specs.Faults.{IsSqlFault};
 ghost use Rattle.kept_ledger.specs.Rows.{Shows, ShowFrom, TellsRow, TellsRows};
 
+use crate::columns::{number_at, row_at};
 use crate::fault::ReadFault;
-use crate::row_at::{number_at, row_at};
 use kept_event::{KeptEvent, event_in};
 use sqlite::Row as Shown;
 use std::alloc::{AllocError, Global};

@@ -21,8 +21,9 @@ pub enum ReadFault {
     NoTerms,
 }
 
-/// Why a table is not read: SQLite does not understand a question to a table that is not there.
-pub(crate) fn query_fault(error: Error) -> ReadFault
+/// Why a table is not read: NoBook if SQLite does not understand the question, since it names a table that is not there, else what
+/// SQLite says.
+pub fn query_fault(error: Error) -> ReadFault
     ensures { result ≡ query_fault error }
 {
     match error {

@@ -4,8 +4,8 @@ ghost use Rattle.std.specs.Prelude.{◌≡◌, IfOk};
 ghost use Rattle.sqlite_value.specs.Order.{column};
 ghost use Rattle.kept_ledger.specs.TermsRow.{id_in, limits_in, terms_told, terms_by, terms_shown, TellsAs};
 
+use crate::columns::{number_at, value_at};
 use crate::fault::ReadFault;
-use crate::row_at::{number_at, value_at};
 use crate::terms::Terms;
 use crate::terms_row::{FORMAT, names_in};
 use host_words::NoMemory;

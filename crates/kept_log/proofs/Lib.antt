@@ -1,1 +1,3 @@
+pub mod LastText
+pub mod LastEvents
 pub mod LogLemmas

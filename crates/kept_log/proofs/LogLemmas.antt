@@ -7,11 +7,11 @@ use Rattle.sqlite_value.specs.Order.{Row as Values}
 use Rattle.sqlite.specs.State.{State, HasCleanDisk, Survives}
 use Rattle.sqlite.proofs.StateLemmas.{survives_then, survives_weaker}
 use Rattle.kept_ledger.specs.declared.fault.ReadFault.{ReadFault}
-use Rattle.kept_ledger.specs.declared.timed.TimedEvent.{TimedEvent}
+use Rattle.kept_log.specs.declared.timed.TimedEvent.{TimedEvent}
 use Rattle.kept_ledger.specs.Faults.{IsSqlFault}
 use Rattle.kept_ledger.specs.TermsView.{PlainTerms}
 use Rattle.kept_ledger.specs.Ledger.{Entry, events_of, IsLedger, IsLedgerOf, OnlyReads}
-use Rattle.kept_ledger.specs.Timed.{entry_of, entries_of, last_of}
+use Rattle.kept_log.specs.Timed.{entry_of, entries_of, last_of}
 use Rattle.kept_log.specs.Logged.{IsLogged, AreLogged}
 use Rattle.kept_log.specs.Telling.{ReadsLog}
 use Rattle.kept_log.specs.declared.rows.LogRow.{LogRow}

@@ -1,4 +1,5 @@
 pub mod LogGrammar
+pub mod Timed
 pub mod Logged
 pub mod LogText
 pub mod Telling

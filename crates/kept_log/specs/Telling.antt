@@ -8,7 +8,7 @@ use Rattle.kept_ledger.specs.declared.fault.ReadFault.{ReadFault}
 use Rattle.kept_ledger.specs.Faults.{IsSqlFault}
 use Rattle.kept_ledger.specs.TermsView.{PlainTerms}
 use Rattle.kept_ledger.specs.Ledger.{Entry, IsLedgerOf}
-use Rattle.kept_ledger.specs.Timed.{last_of}
+use Rattle.kept_log.specs.Timed.{last_of}
 use Rattle.kept_log.specs.Logged.{AreLogged}
 use Rattle.kept_log.specs.LogText.{log_text}
 use Rattle.kept_log.specs.declared.rows.LogRow.{LogRow}

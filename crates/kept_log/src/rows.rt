@@ -1,17 +1,18 @@
 //! The rows of a log, read from the table of events.
 
-ghost use Rattle.std.specs.Prelude.{◌≡◌, ◌++◌, ◌∷◌, [], OnOk, IfOk, IfErr};
+ghost use Rattle.std.specs.Prelude.{IfOk, IfErr};
 ghost use Rattle.sqlite.specs.Held.{state};
 ghost use Rattle.kept_ledger.specs.Faults.{IsSqlFault};
-ghost use Rattle.kept_ledger.specs.Timed.{entry_of, entries_of};
+ghost use Rattle.kept_log.specs.Timed.{entry_of, entries_of};
 ghost use Rattle.kept_log.specs.Logged.{IsLogged, AreLogged};
 ghost use Rattle.kept_log.specs.Telling.{ReadsLog};
 
 use crate::event::{LogEvent, event_of};
 use crate::time::{LogTime, time_of};
-use kept_ledger::{ReadFault, TimedEvent, read_last, read_terms};
+use crate::timed::{TimedEvent, push, read_last};
+use kept_ledger::{ReadFault, read_terms};
 use sqlite::{Alter, Connection};
-use std::alloc::{AllocError, Global};
+use std::alloc::Global;
 
 /// What a log tells of one event.
 #[derive(Debug, Drop)]
@@ -29,14 +30,6 @@ fn row_of(it: TimedEvent) -> LogRow
         time: time_of(it.time),
         event: event_of(it.event),
     }
-}
-
-// Adds a row to a list.
-fn push(rows: &mut Vec<LogRow>, row: LogRow) -> Result<(), AllocError>
-    ensures { OnOk result (rows.new.items ≡ rows.old.items ++ row ∷ []) }
-{
-    rows.push(row)?;
-    Ok(())
 }
 
 // The rows of events.

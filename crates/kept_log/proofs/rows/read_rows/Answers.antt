@@ -1,5 +1,5 @@
 use Rattle.sqlite.specs.Held.{state}
-use Rattle.kept_ledger.specs.Timed.{last_text, last_params}
+use Rattle.kept_log.specs.Timed.{last_text, last_params}
 use Rattle.kept_log.proofs.LogLemmas.{refused, read_once}
 use Rattle.kept_log.proofs.rows.read_rows.Goals as goal
 

@@ -1,12 +1,12 @@
 use Rattle.std.proofs.Common.{◌∙◌, subst}
 use Rattle.std.proofs.IntoIterSteps.{All-taken}
-use Rattle.kept_ledger.specs.Timed.{entries_of}
+use Rattle.kept_log.specs.Timed.{entries_of}
 use Rattle.kept_log.specs.Logged.{AreLogged}
 use Rattle.kept_log.proofs.LogLemmas.{one_logged}
 use Rattle.kept_log.proofs.rows.rows_of.Goals as goal
 
 pub loop-it-preserved : goal.loop-it-preserved
-loop-it-preserved c = one_logged c.loop-it.yielded c.loop-it.rows.items c.push.new.rows.items c.in-Some.it c.row_of.result c.loop-it.invariant c.row_of.ensures c.in_ok-push.ensures
+loop-it-preserved c = one_logged c.loop-it.yielded c.loop-it.rows.items c.push.new.list.items c.in-Some.it c.row_of.result c.loop-it.invariant c.row_of.ensures c.in_ok-push.ensures
 
 pub returns-clause-logged : goal.returns-clause-logged
 returns-clause-logged c =

@@ -1,4 +1,4 @@
-use Rattle.kept_ledger.specs.Timed.{entries_of}
+use Rattle.kept_log.specs.Timed.{entries_of}
 use Rattle.kept_log.specs.Logged.{AreLogged}
 use Rattle.kept_log.proofs.rows.rows_of.Given as goal
 

@@ -5,11 +5,11 @@ use Rattle.sqlite.specs.State.{HasCleanDisk}
 use Rattle.kept_ledger.specs.Faults.{IsSqlFault}
 use Rattle.kept_ledger.specs.TermsView.{PlainTerms}
 use Rattle.kept_ledger.specs.Ledger.{Entry, IsLedgerOf}
-use Rattle.kept_ledger.specs.Timed.{entries_of, last_text, last_params, last_of}
-use Rattle.kept_ledger.proofs.Texts.{last_is}
+use Rattle.kept_log.specs.Timed.{entries_of, last_text, last_params, last_of}
+use Rattle.kept_log.proofs.LastText.{last_is}
 use Rattle.kept_ledger.proofs.Reading.{read_ok, read_err, answered, unanswered}
-use Rattle.kept_ledger.proofs.LastEvents.{last_shows, last_timed, memory_sql}
-use Rattle.kept_ledger.proofs.timed.read_last.Goals as goal
+use Rattle.kept_log.proofs.LastEvents.{last_shows, last_timed, memory_sql}
+use Rattle.kept_log.proofs.timed.read_last.Goals as goal
 
 pub returns-in-Ok : goal.returns-in-Ok
 returns-in-Ok g c =

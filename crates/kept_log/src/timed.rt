@@ -1,6 +1,6 @@
 //! The last events of a kept book, each with the time at which it was added.
 
-ghost use Rattle.std.specs.Prelude.{◌≡◌, List, IfOk, IfErr, MatchResult, reverse, unwrap_or};
+ghost use Rattle.std.specs.Prelude.{◌≡◌, ◌++◌, ◌∷◌, [], List, OnOk, IfOk, IfErr, MatchResult, reverse, unwrap_or};
 ghost use Rattle.sqlite_value.specs.Order.{column};
 ghost use Rattle.sqlite.specs.State.{HasCleanDisk, Survives, CommitsShowing, FailsToQuery, Shown as IsShown};
 ghost use Rattle.sqlite.specs.Held.{state};
@@ -9,22 +9,20 @@ ghost use Rattle.kept_ledger.specs.Columns.{number_in};
 ghost use Rattle.kept_ledger.specs.Faults.{IsSqlFault};
 ghost use Rattle.kept_ledger.specs.TermsView.{PlainTerms};
 ghost use Rattle.kept_ledger.specs.Ledger.{Entry, IsLedgerOf, OnlyReads};
-ghost use Rattle.kept_ledger.specs.Timed.{entry_of, entries_of, last_of, last_text, last_params, IsTimed, AreTimed, TellsMemory};
+ghost use Rattle.kept_log.specs.Timed.{entry_of, entries_of, last_of, last_text, last_params, IsTimed, AreTimed, TellsMemory};
 
-use crate::event_at::push;
-use crate::fault::{ReadFault, query_fault};
-use crate::row_at::{number_at, row_at};
 use kept_event::{KeptEvent, event_in};
+use kept_ledger::{ReadFault, number_at, query_fault, row_at};
 use sqlite::types::ValueRef;
 use sqlite::{Alter, Connection, Error, Row as Shown};
-use std::alloc::Global;
+use std::alloc::{AllocError, Global};
 
 /// An event of a kept book, and the time at which it was added.
 #[derive(Debug, Drop)]
-pub struct TimedEvent {
+pub(crate) struct TimedEvent {
     /// In milliseconds since 1970.
-    pub time: u64,
-    pub event: KeptEvent,
+    pub(crate) time: u64,
+    pub(crate) event: KeptEvent,
 }
 
 // Why a row is not read that is no event's: it is named by its place.
@@ -49,6 +47,14 @@ fn timed_at(alloc: Global, row: &Shown) -> Result<TimedEvent, ReadFault>
         Some(event) => Ok(TimedEvent { time, event }),
         None => Err(misfit(row)),
     }
+}
+
+/// Adds an item to a list.
+pub(crate) fn push<T: Drop>(list: &mut Vec<T>, item: T) -> Result<(), AllocError>
+    ensures { OnOk result (list.new.items ≡ list.old.items ++ item ∷ []) }
+{
+    list.push(item)?;
+    Ok(())
 }
 
 // The events that rows show, each with its time.
@@ -100,7 +106,7 @@ fn turn(rows: &mut Vec<Shown>)
 /// # Errors
 /// DoesNotFit has the place of a row that is no event's; NoBook says that the database has no such table; Sql why SQLite did not
 /// answer, or that memory ran out. Of a ledger only Sql is told.
-pub fn read_last<S: Alter>(
+pub(crate) fn read_last<S: Alter>(
     alloc: Global,
     conn: &mut Connection<S>,
     most: Option<u64>,

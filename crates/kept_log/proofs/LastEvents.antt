@@ -17,14 +17,14 @@ use Rattle.sqlite.proofs.Callers.{reads_as}
 use Rattle.kept_event.specs.Row.{row_of}
 use Rattle.kept_ledger.specs.declared.fault.ReadFault.{ReadFault}
 use Rattle.kept_ledger.specs.declared.fault.ReadFault.TheVariants.{Sql}
-use Rattle.kept_ledger.specs.declared.timed.TimedEvent.{TimedEvent}
+use Rattle.kept_log.specs.declared.timed.TimedEvent.{TimedEvent}
 use Rattle.kept_ledger.specs.Table.{ledger_schema}
 use Rattle.kept_ledger.specs.TermsView.{PlainTerms}
 use Rattle.kept_ledger.specs.Ledger.{Entry, AreKept, rows_from, HoldEntries, TellsSql}
-use Rattle.kept_ledger.specs.Timed.{entry_of, entries_of, limit_of, last_within, last_of, limit_number, last_params, shown_timed, IsTimed, AreTimed, TellsMemory}
+use Rattle.kept_log.specs.Timed.{entry_of, entries_of, limit_of, last_within, last_of, last_text, limit_number, last_params, shown_timed, IsTimed, AreTimed, TellsMemory}
 use Rattle.kept_ledger.proofs.Places.{below}
 use Rattle.kept_ledger.proofs.ColumnsRead.{number_back, row_back}
-use Rattle.kept_ledger.proofs.Texts.{last_text, last_query, last_is}
+use Rattle.kept_log.proofs.LastText.{last_query, last_is}
 
 -- ---- lists turned round
 map_reverse : {A B : Type 0} (f : A → B) (xs : List A) → map f (reverse xs) ≡ reverse (map f xs)

@@ -1,8 +1,8 @@
 use Rattle.std.proofs.Common.{List, length}
 use Rattle.kept_ledger.specs.Ledger.{Entry}
-use Rattle.kept_ledger.specs.Timed.{AreTimed}
-use Rattle.kept_ledger.proofs.LastEvents.{IsReadTo}
-use Rattle.kept_ledger.proofs.timed.timed_events.Given as goal
+use Rattle.kept_log.specs.Timed.{AreTimed}
+use Rattle.kept_log.proofs.LastEvents.{IsReadTo}
+use Rattle.kept_log.proofs.timed.timed_events.Given as goal
 
 abbrev pub invariant-loop-row : goal.invariant-loop-row
 invariant-loop-row l = (es : List Entry) → AreTimed l.rows es → IsReadTo es l.events.items l.rest

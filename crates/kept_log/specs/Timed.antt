@@ -8,7 +8,7 @@ use Rattle.kept_event.specs.Bounded.{IsBounded}
 use Rattle.kept_event.specs.Row.{row_of}
 use Rattle.kept_ledger.specs.declared.fault.ReadFault.{ReadFault}
 use Rattle.kept_ledger.specs.declared.fault.ReadFault.TheVariants.{Sql}
-use Rattle.kept_ledger.specs.declared.timed.TimedEvent.{TimedEvent}
+use Rattle.kept_log.specs.declared.timed.TimedEvent.{TimedEvent}
 use Rattle.kept_ledger.specs.Columns.{number, number_in, row_in}
 use Rattle.kept_ledger.specs.Ledger.{Entry, shown}
 

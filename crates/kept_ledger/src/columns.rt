@@ -1,4 +1,4 @@
-//! The row that a row of an answer shows.
+//! The columns of a row of an answer, and the row of an event that they show.
 
 ghost use Rattle.std.specs.Prelude.{◌≡◌, IfOk, OnOk};
 ghost use Rattle.sqlite_value.specs.Value.{owned};
@@ -23,8 +23,8 @@ pub(crate) fn value_at(row: &Shown, at: usize) -> ValueRef<'_>
     }
 }
 
-/// The number of a column, if it is one.
-pub(crate) fn number_at(row: &Shown, at: usize) -> Option<u64>
+/// The number of a column, from 0; none if the column has no integer, or the row has not so many.
+pub fn number_at(row: &Shown, at: usize) -> Option<u64>
     ensures { result ≡ number_in (column row.now at) }
 {
     match value_at(row, at) {
@@ -130,8 +130,12 @@ fn fill_bytes(alloc: Global, row: &mut Row, shown: &Shown) -> Result<(), NoMemor
     Ok(())
 }
 
-/// The row that is shown; none if its verb is no word for one. NoMemory if an allocation fails.
-pub(crate) fn row_at(alloc: Global, shown: &Shown) -> Result<Option<Row>, NoMemory>
+/// The row of an event that is shown, by the columns of the table of events in their order, without the time; none if its verb is
+/// no word for one.
+///
+/// # Errors
+/// NoMemory if an allocation fails.
+pub fn row_at(alloc: Global, shown: &Shown) -> Result<Option<Row>, NoMemory>
     ensures { IfOk result (λ read. read ≡ row_in shown.now) }
 {
     let Some(verb) = verb_at(shown, 3) else {

@@ -1,8 +1,8 @@
 use Rattle.std.proofs.Common.{IfOk, IfErr, subst}
 use Rattle.sqlite.specs.Held.{state}
 use Rattle.sqlite.specs.State.{HasCleanDisk, Survives, CommitsShowing, FailsToQuery, Shown}
-use Rattle.kept_ledger.specs.Timed.{last_text}
-use Rattle.kept_ledger.proofs.timed.ask_last.Goals as goal
+use Rattle.kept_log.specs.Timed.{last_text}
+use Rattle.kept_log.proofs.timed.ask_last.Goals as goal
 
 pub returns : goal.returns
 returns g c =

@@ -3,7 +3,7 @@ use Rattle.kept_event.specs.declared.event.KeptEvent.{KeptEvent}
 use Rattle.kept_event.specs.Row.{row_of}
 use Rattle.kept_ledger.specs.Ledger.{Entry}
 use Rattle.kept_ledger.proofs.ColumnsRead.{same_some, never_none}
-use Rattle.kept_ledger.proofs.timed.timed_at.Goals as goal
+use Rattle.kept_log.proofs.timed.timed_at.Goals as goal
 
 pub returns-in-Some-3-clause-back : goal.returns-in-Some-3-clause-back
 returns-in-Some-3-clause-back c e h =
