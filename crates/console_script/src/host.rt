@@ -3,6 +3,7 @@
 ghost use Rattle.std.specs.Prelude.{◌≡◌, ◌++◌, ◌∷◌, [], IfOk, IfErr, Ok};
 ghost use Rattle.journal_model.specs.Book.{opened};
 ghost use Rattle.console_script.specs.Host.{device_names, limits_of};
+ghost use Rattle.console_script.specs.Faults.{TellsNone};
 ghost use Rattle.console_script.specs.declared.fault.HostFault.TheVariants.{NoMemory, Write};
 
 use crate::fault::HostFault;
@@ -63,6 +64,7 @@ pub fn devices(alloc: Global) -> Result<Vec<Word>, HostFault>
 pub fn new_book(alloc: Global, moments: u64) -> Result<Book<HostKind>, HostFault>
     ensures opens { IfOk result (λ book. opened device_names (limits_of moments) ≡ Ok book.plain) }
     ensures unwritten { IfErr result (λ fault. fault ≡ Write → ⊥) }
+    ensures why { IfErr result (TellsNone moments) }
 {
     let devices = devices(alloc)?;
     match Book::new(alloc, devices, limits(moments)) {
