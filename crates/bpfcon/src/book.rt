@@ -179,7 +179,7 @@ fn look_on_book<R: FileReader + Eprint + Clock + Databases + AllocGlobal, W: Wri
 
 // Does what a line asks on the book that a file keeps: tells the log, takes a range of changes out, looks into the journal, or runs it
 // as a command.
-fn do_line<R: FileReader + Eprint + Clock + Databases + AllocGlobal, W: Write>(
+fn line_on_book<R: FileReader + Eprint + Clock + Databases + AllocGlobal, W: Write>(
     rt: &R,
     file: String,
     wait: u32,
@@ -252,7 +252,7 @@ pub fn run_on_book<
 {
     let BookOrder { file, wait, lines } = order;
     match lines {
-        BookLines::Line(line) => do_line(rt, file, wait, line, out),
+        BookLines::Line(line) => line_on_book(rt, file, wait, line, out),
         BookLines::Input => {
             let script = read_input(rt)?;
             run_script(rt, file, wait, b"stdin", Origin::Script, &script, out)

@@ -1,7 +1,7 @@
 //! A range of changes taken out of the book in a file, for the line that spells it.
 
 ghost use Rattle.std.specs.Prelude.{IfOk, IfErr, string_bytes};
-ghost use Rattle.kept_host.specs.Ranges.{TakesInFile};
+ghost use Rattle.kept_range.specs.Ranges.{TakesInFile};
 ghost use Rattle.bpfcon.specs.Book.{TakesOn};
 ghost use Rattle.bpfcon.specs.Ends.{EndsBook};
 
@@ -12,7 +12,8 @@ use console_answer::Fault as LineFault;
 use console_hint::advice;
 use console_input::FileReader;
 use console_script::Summary;
-use kept_host::{Databases, InFileFault, SerialRange, Taken, Terms, host_terms, take_in_file};
+use kept_host::{Databases, InFileFault, SerialRange, Terms, host_terms};
+use kept_range::{Taken, take_in_file};
 use std::io::Write;
 use std::time::Clock;
 

@@ -7,7 +7,7 @@ ghost use Rattle.journal_model.specs.Book.{PlainBook};
 ghost use Rattle.kept_event.specs.declared.event.KeptEvent.{KeptEvent as Event};
 ghost use Rattle.kept_ledger.specs.Table.{no_schema};
 ghost use Rattle.kept_ledger.specs.TermsView.{PlainTerms};
-ghost use Rattle.kept_ledger.specs.Ledger.{IsLedger};
+ghost use Rattle.kept_ledger.specs.Ledger.{Entry, IsLedger, IsLedgerOf};
 ghost use Rattle.kept_file.specs.Keeps.{Keeps, start_of};
 ghost use Rattle.kept_file.specs.Faults.{TellsNoBook, IsOpened};
 
@@ -73,6 +73,7 @@ fn with_terms<S: Alter, K: MapKind, B: MakeBox<K>>(
     ensures opened { HasCleanDisk (state S.Store conn.new) → (events : List Event) → IsLedger terms events (state S.Store conn.old) → IsOpened terms events result }
     ensures same { HasCleanDisk (state S.Store conn.new) → (events : List Event) → IsLedger terms events (state S.Store conn.old)
         → OnOk result (IsLedger terms events (state S.Store conn.new)) }
+    ensures times { HasCleanDisk (state S.Store conn.new) → (es : List Entry) → IsLedgerOf terms es (state S.Store conn.old) → OnOk result (IsLedgerOf terms es (state S.Store conn.new)) }
     ensures crash { Survives (state S.Store conn.old) (state S.Store conn.new) (λ _. (t : PlainTerms) (events : List Event) → IsLedger t events (state S.Store conn.old) → ⊥) }
 {
     match read(alloc, conn) {
@@ -96,6 +97,7 @@ pub fn open_book<S: Alter, K: MapKind, B: MakeBox<K>>(
         → IsOpened t events result }
     ensures same { HasCleanDisk (state S.Store conn.new) → (t : PlainTerms) (events : List Event) → IsLedger t events (state S.Store conn.old)
         → OnOk result (IsLedger t events (state S.Store conn.new)) }
+    ensures times { HasCleanDisk (state S.Store conn.new) → (t : PlainTerms) (es : List Entry) → IsLedgerOf t es (state S.Store conn.old) → OnOk result (IsLedgerOf t es (state S.Store conn.new)) }
     ensures kept { HasCleanDisk (state S.Store conn.new) → (t : PlainTerms) (b : PlainBook) → Keeps t (state S.Store conn.old) b → IfOk result (λ book. book.plain ≡ b) }
     ensures bare { HasCleanDisk (state S.Store conn.new) → (state S.Store conn.old).now.schema ≡ no_schema → MatchResult result (λ _. ⊥) TellsNoBook }
     ensures crash { Survives (state S.Store conn.old) (state S.Store conn.new) (λ _. (t : PlainTerms) (events : List Event) → IsLedger t events (state S.Store conn.old) → ⊥) }

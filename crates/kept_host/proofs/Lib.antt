@@ -1,4 +1,3 @@
 mod Looking
 mod Running
-mod Taking
 mod Talking

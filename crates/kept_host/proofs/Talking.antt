@@ -24,7 +24,7 @@ use Rattle.kept_lines.specs.Kept.{IsOnDisk, IsFront}
 use Rattle.kept_lines.specs.declared.databases.Database.{Database}
 use Rattle.kept_host.specs.declared.fault.Broken.{Broken}
 use Rattle.kept_host.specs.declared.fault.Broken.TheVariants as broken
-use Rattle.kept_host.specs.declared.fault.InFileFault.TheVariants.{Unopened, Kept}
+use Rattle.kept_lines.specs.declared.fault.InFileFault.TheVariants.{Unopened, Kept}
 use Rattle.kept_lines.specs.declared.fault.KeptFault.{KeptFault}
 use Rattle.kept_lines.specs.declared.fault.KeptFault.TheVariants.{Open, Make, Lines}
 use Rattle.kept_host.specs.declared.fault.TalkFault.{TalkFault}

@@ -2,6 +2,5 @@ pub mod Asks
 pub mod HostTerms
 pub mod Logs
 pub mod Looks
-pub mod Ranges
 pub mod Runs
 pub mod Talks

@@ -15,8 +15,8 @@ use Rattle.kept_ledger.specs.TermsView.{PlainTerms}
 use Rattle.kept_lines.specs.Kept.{IsOnDisk}
 use Rattle.kept_lines.specs.Begun.{WasReady, HasBook, IsNotRun}
 use Rattle.kept_lines.specs.declared.databases.Database.{Database}
-use Rattle.kept_host.specs.declared.fault.InFileFault.{InFileFault}
-use Rattle.kept_host.specs.declared.fault.InFileFault.TheVariants.{Unopened, Kept}
+use Rattle.kept_lines.specs.declared.fault.InFileFault.{InFileFault}
+use Rattle.kept_lines.specs.declared.fault.InFileFault.TheVariants.{Unopened, Kept}
 use Rattle.kept_lines.specs.declared.fault.KeptFault.{KeptFault}
 use Rattle.kept_lines.specs.declared.fault.KeptFault.TheVariants.{Open, Make, Lines}
 

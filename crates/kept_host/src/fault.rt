@@ -1,18 +1,9 @@
 //! Why lines on the host that a file keeps were not run to their end.
 
 use console_input::ReadFault;
-use kept_lines::{KeptFault, LinesFault};
+use kept_lines::{InFileFault, LinesFault};
 use kept_log::LogFault;
 use sqlite::Error;
-
-/// Why a script was not run to its end on the book of a file.
-#[derive(Clone, Copy, Debug, PartialEq, Eq)]
-pub enum InFileFault {
-    /// The file is not opened as a database. No line was run.
-    Unopened(Error),
-    /// The script was not run to its end on its book.
-    Kept(KeptFault),
-}
 
 /// Why the log of a file is not told.
 #[derive(Clone, Copy, Debug, PartialEq, Eq)]

@@ -1,16 +1,13 @@
-//! A script, a look into the journal, a range of changes taken out, a dialogue and the log, on the book of a file.
+//! A script, a look into the journal, a dialogue and the log, on the book of a file.
 
 ghost use Rattle.kept_host.specs.Logs.{LogsInFile};
 ghost use Rattle.kept_host.specs.Looks.{LooksInFile};
-ghost use Rattle.kept_host.specs.Ranges.{TakesInFile};
 ghost use Rattle.kept_host.specs.Runs.{RunsInFile};
 ghost use Rattle.kept_host.specs.Talks.{TalksInFile};
 
-use crate::asides::Asides;
-use crate::fault::{InFileFault, LogInFileFault, TalkFault};
+use crate::fault::{LogInFileFault, TalkFault};
 use crate::log::log_kept;
 use crate::look::look_kept;
-use crate::range::take_kept;
 use crate::run::{run_kept, talk_kept};
 use bt_syntax::Script;
 use console_input::{FileReader, Terminal};
@@ -18,7 +15,7 @@ use console_looks::Look;
 use console_script::{HostKind, Summary};
 use console_text::Output;
 use kept_file::Terms;
-use kept_lines::{Databases, SerialRange, Taken, milliseconds, open_waiting};
+use kept_lines::{Asides, Databases, InFileFault, milliseconds, open_waiting};
 use std::io::{BufRead, Write};
 use std::time::Clock;
 
@@ -75,38 +72,6 @@ pub fn look_in_file<R: Databases + Clock + AllocGlobal, A: Asides<HostKind, W>, 
     let _ = rt.close_database(it);
     match looked {
         Ok(summary) => Ok(summary),
-        Err(fault) => Err(InFileFault::Kept(fault)),
-    }
-}
-
-/// Takes the range of changes that a line spells out of the book that the file of this path keeps, or none of them, as
-/// [`take_kept`] does on a connection to it. A file that is not there is made. For one that is in use it waits so many seconds.
-///
-/// # Errors
-/// Unopened if the file is not opened, and then nothing was done, and those of [`take_kept`].
-pub fn take_in_file<R: Databases + Clock + AllocGlobal, A: Asides<HostKind, W>, W: Output>(
-    rt: &R,
-    path: &str,
-    seconds: u32,
-    terms: Terms,
-    line: &[u8],
-    range: SerialRange,
-    asides: &mut A,
-    out: &mut W,
-) -> Result<Taken, InFileFault>
-    ensures { TakesInFile (R.may_open rt.now path.now) terms range (W.contents out.old) (W.contents out.new) result }
-{
-    let mut it = match open_waiting(rt, path, seconds) {
-        Ok(it) => it,
-        Err(error) => return Err(InFileFault::Unopened(error)),
-    };
-    let time = milliseconds(rt);
-    let alloc = rt.alloc();
-    let conn = &mut it.conn;
-    let taken = take_kept(alloc, conn, time, terms, line, range, asides, out);
-    let _ = rt.close_database(it);
-    match taken {
-        Ok(taken) => Ok(taken),
         Err(fault) => Err(InFileFault::Kept(fault)),
     }
 }

@@ -5,14 +5,13 @@ ghost use Rattle.sqlite.specs.Held.{state};
 ghost use Rattle.console_looks.specs.Answered.{ShowsFront};
 ghost use Rattle.kept_host.specs.Looks.{counts_of, ShowsCounted, LooksAt, LooksFront, LooksKept};
 
-use crate::asides::Asides;
 use bt_journal::Book;
 use bt_mapkind::MapKind;
 use bt_syntax::NoMemory;
 use console_looks::{Look, Showing, answer_show};
 use console_script::{HostKind, Summary};
 use kept_file::Terms;
-use kept_lines::{KeptFault, LinesFault, begin};
+use kept_lines::{Asides, KeptFault, LinesFault, begin};
 use sqlite::{Alter, Connection};
 use std::alloc::Global;
 use std::io::Write;

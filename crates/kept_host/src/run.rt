@@ -1,12 +1,12 @@
 //! A script, and a dialogue, on the book of a database.
 
-ghost use Rattle.std.specs.Prelude.{◌≡◌};
+ghost use Rattle.std.specs.Prelude.{◌≡◌, OnOk};
 ghost use Rattle.sqlite.specs.Held.{state};
+ghost use Rattle.kept_lines.specs.Begun.{AddsToBook};
 ghost use Rattle.kept_host.specs.Runs.{RunsKept};
 ghost use Rattle.kept_host.specs.Talks.{fault_of, TalksKept};
 
-use crate::asides::Asides;
-use crate::fault::{Broken, InFileFault, TalkFault};
+use crate::fault::{Broken, TalkFault};
 use crate::talk::keep_talk;
 use bt_journal::Book;
 use bt_syntax::Script;
@@ -15,7 +15,7 @@ use console_script::{HostKind, HostSupply, Summary};
 use console_talk::Manner;
 use console_text::Output;
 use kept_file::Terms;
-use kept_lines::{KeptFault, begin, keep_lines};
+use kept_lines::{Asides, InFileFault, KeptFault, begin, keep_lines};
 use sqlite::{Alter, Connection};
 use std::alloc::Global;
 use std::io::{BufRead, Write};
@@ -49,7 +49,8 @@ pub fn run_kept<D: Alter, A: Asides<HostKind, W>, W: Output>(
     asides: &mut A,
     out: &mut W,
 ) -> Result<Summary, KeptFault>
-    ensures { RunsKept terms script.now.files.items script.now.text.items (state D.Store conn.old) (state D.Store conn.new) (W.contents out.old) (W.contents out.new) result }
+    ensures runs { RunsKept terms script.now.files.items script.now.text.items (state D.Store conn.old) (state D.Store conn.new) (W.contents out.old) (W.contents out.new) result }
+    ensures times { OnOk result (AddsToBook terms time (state D.Store conn.old) (state D.Store conn.new)) }
 {
     let mut book: Book<HostKind> = match begin(alloc, conn, terms) {
         Ok(book) => book,

@@ -17,7 +17,6 @@ ghost use Rattle.kept_lines.specs.Kept.{IsOnDisk};
 ghost use Rattle.kept_host.specs.Looks.{LooksFront};
 ghost use Rattle.kept_host.specs.Talks.{IsPart, IsTalkFront};
 
-use crate::asides::Asides;
 use crate::fault::Broken;
 use crate::look::look_now;
 use bt_journal::Book;
@@ -28,7 +27,7 @@ use console_looks::Look;
 use console_script::{Summary, Supply};
 use console_talk::{Manner, read_line};
 use console_text::Output;
-use kept_lines::{Hints, KeptDialogue, LinesFault, Wrong, milliseconds, wrong_in};
+use kept_lines::{Asides, Hints, KeptDialogue, LinesFault, Wrong, milliseconds, wrong_in};
 use sqlite::{Alter, Connection};
 use std::io::{BufRead, Write};
 use std::time::Clock;

@@ -10,7 +10,7 @@ use Rattle.bt_journal.specs.BookView.{BookView}
 use Rattle.kept_event.specs.declared.event.KeptEvent.{KeptEvent}
 use Rattle.kept_ledger.specs.Table.{event_table, book_table, no_schema, ledger_schema}
 use Rattle.kept_ledger.specs.TermsView.{PlainTerms}
-use Rattle.kept_ledger.specs.Ledger.{IsLedger, Commits, LeavesOnly}
+use Rattle.kept_ledger.specs.Ledger.{Entry, IsLedger, IsLedgerOf, Commits, LeavesOnly}
 use Rattle.kept_file.specs.declared.fault.OpenFault.{OpenFault}
 use Rattle.kept_file.specs.declared.fault.OpenFault.TheVariants.{NoMemory}
 use Rattle.kept_file.specs.Keeps.{Keeps, HoldsBook, start_of}
@@ -21,7 +21,7 @@ use Rattle.kept_lines.specs.Kept.{IsOnDisk, Stops}
 use Rattle.kept_lines.specs.declared.fault.LinesFault.{LinesFault}
 use Rattle.kept_lines.specs.declared.fault.LinesFault.TheVariants.{CannotKeep, Write}
 use Rattle.kept_lines.specs.declared.fault.KeptFault.TheVariants.{Open}
-use Rattle.kept_lines.specs.Begun.{WasReady, IsNew, HasBook, IsNotBegun, BeginsOn}
+use Rattle.kept_lines.specs.Begun.{WasReady, IsNew, HasBook, IsNotBegun, BeginsOn, HasEntries}
 
 -- a schema that lists nothing
 pub lists_nothing : (s : Schema) → s.tables ≡ [] → s.indexes ≡ [] → s.views ≡ [] → s ≡ no_schema
@@ -39,6 +39,11 @@ module _ (terms : PlainTerms) (old new : State) (unmade : old.now.schema ≡ no_
       by : (db : Trees) → old.may_leave db ⊎ HoldsBook terms (start_of terms) db → old.may_leave db ⊎ ((old.now.schema ≡ no_schema) × HoldsBook terms (start_of terms) db)
       by db (inl was) = inl was
       by db (inr holds) = inr (unmade, holds)
+
+  -- and has no entry
+  pub made_entries : (HasCleanDisk new → IsLedgerOf terms [] new) → HasCleanDisk new → WasReady old → (t : PlainTerms) (es : List Entry) → HasEntries terms t old es → IsLedgerOf t es new
+  made_entries made clean ready t es (inl (none, same, empty)) = subst (λ xs. IsLedgerOf t xs new) (sym empty) (subst (λ u. IsLedgerOf u [] new) (sym same) (made clean))
+  made_entries made clean ready t es (inr was) = absurd (has_tables old.now.schema unmade was.schema)
 
   module _ {A E : Type 0} (done : A) (commits : Commits {A = A} {E = E} old new (Ok done) (λ s. Keeps terms s (start_of terms)) (HoldsBook terms (start_of terms))) where
     on_disk : HasCleanDisk new → IsOnDisk terms new (start_of terms)
@@ -89,6 +94,11 @@ module _ (terms : PlainTerms) (old new : State) (made : old.in_transaction ≡ f
           leaves = λ db may. settled t b (ready (was_clean clean)).is_open keeps db (left_before t b keeps clean db may);
         },
       )
+
+  pub opened_entries : (HasCleanDisk new → (t : PlainTerms) (es : List Entry) → IsLedgerOf t es old → IsLedgerOf t es new) → HasCleanDisk new → WasReady old → (t : PlainTerms) (es : List Entry) → HasEntries terms t old es
+      → IsLedgerOf t es new
+  opened_entries stays clean ready t es (inl (none, same, empty)) = absurd (made (ready (was_clean clean)).autocommit none)
+  opened_entries stays clean ready t es (inr was) = stays clean t es was
 
 -- ---- lines on the book that was begun
 -- it is on the disk before them

@@ -4,11 +4,7 @@ pub mod Further
 pub mod Standing
 pub mod Leaving
 pub mod Beginning
-pub mod TakingRead
+pub mod Added
 pub mod RangeRead
 pub mod ChosenLemmas
-pub mod TakingSteps
-pub mod Together
-pub mod RangeKept
-pub mod OnLines
 pub use Rattle.console_script.proofs.Blanks

@@ -1,5 +1,5 @@
 -- The book that a script begins with.
-use Rattle.std.specs.Prelude.{◌≡◌, ◌⊎◌, ℕ, false, IsTrue, List, Option, Result, Ok, Err}
+use Rattle.std.specs.Prelude.{◌≡◌, ◌⊎◌, ℕ, false, IsTrue, List, [], Option, Result, Ok, Err}
 use Rattle.sqlite_trees.specs.Tree.{Trees}
 use Rattle.sqlite.specs.State.{State, HasCleanDisk}
 use Rattle.journal_model.specs.Book.{PlainBook}
@@ -7,10 +7,10 @@ use Rattle.bt_journal.specs.BookView.{BookView}
 use Rattle.kept_event.specs.declared.event.KeptEvent.{KeptEvent}
 use Rattle.kept_ledger.specs.Table.{no_schema}
 use Rattle.kept_ledger.specs.TermsView.{PlainTerms}
-use Rattle.kept_ledger.specs.Ledger.{IsLedger}
+use Rattle.kept_ledger.specs.Ledger.{Entry, IsLedger, IsLedgerOf}
 use Rattle.kept_file.specs.Keeps.{Keeps, HoldsBook, start_of}
 use Rattle.kept_file.specs.Faults.{TellsWhy}
-use Rattle.kept_lines.specs.Kept.{IsOnDisk}
+use Rattle.kept_lines.specs.Kept.{IsOnDisk, HasMore}
 use Rattle.kept_lines.specs.declared.fault.KeptFault.{KeptFault}
 use Rattle.kept_lines.specs.declared.fault.KeptFault.TheVariants.{Open, Make, Lines}
 
@@ -45,6 +45,14 @@ BeginsOn terms old new (Err (Open why)) = IsNotBegun terms old new
     × (HasCleanDisk new → (t : PlainTerms) (events : List KeptEvent) → IsLedger t events old → TellsWhy t events why)
 BeginsOn terms old new (Err (Make error)) = IsNotBegun terms old new
 BeginsOn terms old new (Err (Lines why)) = ⊥
+
+-- the entries of a database, with the terms of its book; one that has no table gets the new terms, and has none
+abbrev pub HasEntries : PlainTerms → PlainTerms → State → List Entry → Type 0
+HasEntries new t s es = ((s.now.schema ≡ no_schema) × (t ≡ new) × (es ≡ [])) ⊎ IsLedgerOf t es s
+
+-- what was added to them got this time
+abbrev pub AddsToBook : PlainTerms → ℕ → State → State → Type 0
+AddsToBook terms time old new = HasCleanDisk new → WasReady old → (t : PlainTerms) (es : List Entry) → HasEntries terms t old es → HasMore time t es new
 
 -- no line was run
 pub record IsNotRun (terms : PlainTerms) (old new : State) (out_old out_new : Option (List ℕ)) : Type 0 where

@@ -10,7 +10,7 @@ use Rattle.console_script.specs.Transcript.{Session, Step, begun, after_steps, t
 use Rattle.kept_event.specs.declared.event.KeptEvent.{KeptEvent}
 use Rattle.kept_book.specs.Leading.{LeadTo}
 use Rattle.kept_ledger.specs.TermsView.{PlainTerms}
-use Rattle.kept_ledger.specs.Ledger.{LeavesOnly}
+use Rattle.kept_ledger.specs.Ledger.{Entry, IsLedgerOf, LeavesOnly, stamped}
 use Rattle.kept_file.specs.Keeps.{Keeps, HoldsBook, HoldsOne}
 use Rattle.kept_lines.specs.declared.fault.LinesFault.{LinesFault}
 use Rattle.kept_lines.specs.declared.fault.LinesFault.TheVariants.{CannotKeep, Write}
@@ -33,6 +33,15 @@ pub record IsCut (t : PlainTerms) (s : State) (b c : PlainBook) : Type 0 where
 
 abbrev pub IsUnkept : State → State → List KeptEvent → Type 0
 IsUnkept old new events = HasCleanDisk new → (t : PlainTerms) (b c : PlainBook) → IsOnDisk t old b → LeadTo b events c → IsCut t new b c
+
+-- ---- when
+-- a ledger of these terms has these entries and then events that were added at this time, or none
+abbrev pub HasMore : ℕ → PlainTerms → List Entry → State → Type 0
+HasMore time t es s = (events : List KeptEvent) × IsLedgerOf t (es ++ stamped time events) s
+
+-- what was added got this time, and the entries before it stay
+abbrev pub AddsAt : ℕ → State → State → Type 0
+AddsAt time old new = HasCleanDisk new → (t : PlainTerms) (es : List Entry) → IsLedgerOf t es old → HasMore time t es new
 
 -- ---- what is held back
 -- nothing was done, or what was held back is kept and then written, and nothing is held back

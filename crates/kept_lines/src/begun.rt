@@ -1,12 +1,13 @@
 //! The book of a database: opened, or made if there is none.
 
-ghost use Rattle.std.specs.Prelude.{◌≡◌, ◌↔◌, false, IsTrue};
+ghost use Rattle.std.specs.Prelude.{◌≡◌, ◌↔◌, false, IsTrue, List, OnOk};
 ghost use Rattle.sqlite.specs.State.{HasCleanDisk, Survives};
 ghost use Rattle.sqlite.specs.Held.{state};
 ghost use Rattle.kept_ledger.specs.Table.{no_schema};
 ghost use Rattle.kept_ledger.specs.TermsView.{PlainTerms};
+ghost use Rattle.kept_ledger.specs.Ledger.{Entry, IsLedgerOf};
 ghost use Rattle.kept_lines.specs.Kept.{IsOnDisk};
-ghost use Rattle.kept_lines.specs.Begun.{BeginsOn};
+ghost use Rattle.kept_lines.specs.Begun.{WasReady, BeginsOn, HasEntries};
 
 use crate::boxes::HostBoxes;
 use crate::fault::KeptFault;
@@ -36,7 +37,9 @@ fn make<D: Alter>(
 ) -> Result<Book<HostKind>, KeptFault>
     requires autocommit { (state D.Store conn.old).in_transaction ≡ false }
     requires unmade { (state D.Store conn.old).now.schema ≡ no_schema }
-    ensures { BeginsOn terms (state D.Store conn.old) (state D.Store conn.new) result }
+    ensures begins { BeginsOn terms (state D.Store conn.old) (state D.Store conn.new) result }
+    ensures entries { HasCleanDisk (state D.Store conn.new) → WasReady (state D.Store conn.old) → (t : PlainTerms) (es : List Entry) → HasEntries terms t (state D.Store conn.old) es
+        → OnOk result (IsLedgerOf t es (state D.Store conn.new)) }
 {
     // It has no event yet, and so the time stands nowhere.
     match keep_first(alloc, conn, &terms, 0, &[]) {
@@ -51,7 +54,9 @@ fn make<D: Alter>(
 // Opens the book of a database that has a table.
 fn open<D: Alter>(alloc: Global, conn: &mut Connection<D>) -> Result<Book<HostKind>, KeptFault>
     requires { (state D.Store conn.old).in_transaction ≡ false → (state D.Store conn.old).now.schema ≡ no_schema → ⊥ }
-    ensures { (terms : PlainTerms) → BeginsOn terms (state D.Store conn.old) (state D.Store conn.new) result }
+    ensures begins { (terms : PlainTerms) → BeginsOn terms (state D.Store conn.old) (state D.Store conn.new) result }
+    ensures entries { (terms : PlainTerms) → HasCleanDisk (state D.Store conn.new) → WasReady (state D.Store conn.old) → (t : PlainTerms) (es : List Entry) → HasEntries terms t (state D.Store conn.old) es
+        → OnOk result (IsLedgerOf t es (state D.Store conn.new)) }
 {
     what_is_kept_is_on_the_disk::<D>();
     match open_book(alloc, conn, &mut HostBoxes::new(alloc)) {
@@ -71,7 +76,9 @@ pub fn begin<D: Alter>(
     conn: &mut Connection<D>,
     terms: Terms,
 ) -> Result<Book<HostKind>, KeptFault>
-    ensures { BeginsOn terms (state D.Store conn.old) (state D.Store conn.new) result }
+    ensures begins { BeginsOn terms (state D.Store conn.old) (state D.Store conn.new) result }
+    ensures entries { HasCleanDisk (state D.Store conn.new) → WasReady (state D.Store conn.old) → (t : PlainTerms) (es : List Entry) → HasEntries terms t (state D.Store conn.old) es
+        → OnOk result (IsLedgerOf t es (state D.Store conn.new)) }
 {
     if is_blank(conn) {
         make(alloc, conn, terms)

@@ -37,7 +37,7 @@ impl KeptDialogue {
     ghost use Rattle.console_script.specs.Running.{LeadsOn};
     ghost use Rattle.console_script.specs.Transcript.{session_of};
     ghost use Rattle.kept_ledger.specs.TermsView.{PlainTerms};
-    ghost use Rattle.kept_lines.specs.Kept.{IsOnDisk, Stops};
+    ghost use Rattle.kept_lines.specs.Kept.{IsOnDisk, AddsAt, Stops};
 
     /// A dialogue before its first line: no run is open.
     pub fn new(alloc: Global) -> KeptDialogue
@@ -92,6 +92,7 @@ impl KeptDialogue {
         ensures clean { HasCleanDisk (state D.Store conn.new) → HasCleanDisk (state D.Store conn.old) }
         ensures kept { HasCleanDisk (state D.Store conn.new) → (t : PlainTerms) → IsOnDisk t (state D.Store conn.old) book.old.plain
             → OnOk result (IsOnDisk t (state D.Store conn.new) book.new.plain) }
+        ensures times { OnOk result (AddsAt time (state D.Store conn.old) (state D.Store conn.new)) }
         ensures stops { IfErr result (Stops files.now (session_of (console_of book.old.plain self.old.runs) self.old.summary (line.now ∷ []) None)
             (λ t. IsOnDisk t (state D.Store conn.old) book.old.plain) (state D.Store conn.new) (W.contents out.old) (W.contents out.new)) }
     {

@@ -34,3 +34,12 @@ pub enum KeptFault {
     /// The lines were not all run and kept.
     Lines(LinesFault),
 }
+
+/// Why a script was not run to its end on the book of a file.
+#[derive(Clone, Copy, Debug, PartialEq, Eq)]
+pub enum InFileFault {
+    /// The file is not opened as a database. No line was run.
+    Unopened(Error),
+    /// The script was not run to its end on its book.
+    Kept(KeptFault),
+}

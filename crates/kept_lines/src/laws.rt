@@ -1,6 +1,7 @@
-//! What holds of every script on a kept book and of every range, each the contract of a function that does nothing.
+//! What holds of every script on a kept book, and of every line that asks for a range, each the contract of a function that does
+//! nothing.
 
-ghost use Rattle.std.specs.Prelude.{◌≡◌, ◌<◌, ◌^◌, ℕ, IsTrue, IsSome, List, Option, Ok, Err, Some};
+ghost use Rattle.std.specs.Prelude.{◌≡◌, ℕ, IsTrue, IsSome, List, Option, Err};
 ghost use Rattle.sqlite.specs.Files.{file_state, IsOpened};
 ghost use Rattle.sqlite.specs.Held.{Held};
 ghost use Rattle.sqlite.specs.Start.{FindsIn};
@@ -9,17 +10,13 @@ ghost use Rattle.sqlite_store.specs.declared.store.FileStore.{FileStore};
 ghost use Rattle.sqlite_trees.specs.Tree.{Trees};
 ghost use Rattle.sqlite_wal.specs.Recovery.{Image};
 ghost use Rattle.journal_model.specs.Book.{PlainBook};
-ghost use Rattle.console_operand.specs.Word.{words};
-ghost use Rattle.bt_syntax.specs.Steps.{line_read, words_read};
-ghost use Rattle.bt_syntax.specs.declared.command.Command.TheVariants as command;
+ghost use Rattle.bt_syntax.specs.Steps.{words_read};
 ghost use Rattle.bt_syntax.specs.declared.fault.SyntaxFault.TheVariants as syntax;
 ghost use Rattle.bt_syntax.specs.declared.files.FileText.{FileText};
-ghost use Rattle.bt_syntax.specs.declared.journal.JournalCommand.TheVariants as journal;
 ghost use Rattle.kept_ledger.specs.TermsView.{PlainTerms};
 ghost use Rattle.kept_file.specs.Keeps.{KeepsOne, HoldsOne};
 ghost use Rattle.kept_lines.specs.Kept.{IsFront, script_on};
 ghost use Rattle.kept_lines.specs.RangeGrammar.{range_in};
-ghost use Rattle.kept_lines.specs.Taking.{taking_line};
 
 use sqlite_disk::Disk;
 
@@ -31,11 +28,6 @@ pub fn a_book_survives<D: Disk, E: Disk>()
         → ((db : Trees) → recovers it db → HoldsOne t (IsFront files (script_on b script) out_old out_new) db)
         → (left : Image) → (store_state it).may_leave left → (opened : Held (FileStore E E.Disk)) → IsOpened opened → FindsIn left (file_state opened)
         → ∥ KeepsOne t (IsFront files (script_on b script) out_old out_new) (file_state opened) ∥₁ }
-{}
-
-/// The line of a serial is read as the command that takes its change out.
-pub fn a_taking_line_is_read()
-    ensures { (serial : ℕ) → serial < 2 ^ 64 → line_read (taking_line serial) ≡ Ok (Some (command.Journal (journal.Without serial))) }
 {}
 
 /// Words that spell a range are no command of a script, which ends before the last of them.

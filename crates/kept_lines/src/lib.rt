@@ -2,19 +2,19 @@
 //! is held back until that is on the disk.
 //!
 //! [`keep_lines`] runs a script so, a [`KeptDialogue`] each line when it is given, and [`HostBoxes`] makes the maps of a book that
-//! is opened again. Who is told what goes wrong in a line is a trait's, [`Hints`]. What is noted of a line stands in
+//! is opened again. Who is told what goes wrong in a line is a trait's, [`Hints`], and what else is told beside
+//! the answers another's, [`Asides`]. What is noted of a line stands in
 //! `specs/Noting`, and what the reader has seen when a line is not kept in `specs/Kept`.
 //!
-//! [`take_range`] takes a range of changes out: all those in force in it, the last first, or none. [`range_of`] reads the line that
-//! asks for it, `journal without FIRST LAST`, which no script has. Either each of the lines `journal without S` is accepted, and they
-//! are kept together and answered, or book and database are as before. `specs/RangeGrammar` says which words spell a range,
-//! `specs/Chosen` which changes it has, and `specs/Taking` what it comes to.
+//! [`range_of`] reads the line that asks for a range of changes to be taken out, `journal without FIRST LAST`, which no script has, and
+//! [`chosen`] lists the changes that a range has; `specs/RangeGrammar` and `specs/Chosen` say which.
 //!
 //! [`begin`] opens the book of a database, or makes it in one that has no table; `specs/Begun` says which book that is. Where the
 //! databases of files are opened is a trait's, [`Databases`], of which contracts say what may be found there; the runtime is one,
 //! and [`open_waiting`] waits for a file that is in use.
 #![tactic(auto)]
 
+mod asides;
 mod asked;
 mod batch;
 mod begun;
@@ -24,20 +24,16 @@ mod databases;
 mod dialogue;
 mod fault;
 mod group;
-mod held;
 mod hints;
 pub mod laws;
 mod line;
 mod note;
 mod range;
-mod range_fault;
 mod script;
-mod taken;
-mod taking;
-mod takings;
 mod time;
 mod words;
 
+pub use asides::Asides;
 pub use begun::{begin, is_blank};
 pub use boxes::HostBoxes;
 pub use choice::chosen;
@@ -45,13 +41,10 @@ pub use console_script::{Summary, Supply, Tally};
 pub use console_text::Output;
 pub use databases::{Database, Databases, open_waiting};
 pub use dialogue::KeptDialogue;
-pub use fault::{KeptFault, LinesFault};
+pub use fault::{InFileFault, KeptFault, LinesFault};
 pub use hints::{Hints, Wrong, wrong_in};
 pub use kept_file::KeepFault;
 pub use range::{SerialRange, range_of};
-pub use range_fault::RangeFault;
 pub use script::{keep_events, keep_lines};
-pub use taken::Taken;
-pub use taking::take_range;
 pub use time::milliseconds;
-pub use words::put_unkept;
+pub use words::{put_read, put_unkept, put_unread};

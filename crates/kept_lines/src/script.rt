@@ -8,7 +8,7 @@ ghost use Rattle.console_script.specs.Supplied.{AreSupplied};
 ghost use Rattle.console_script.specs.Transcript.{RanAll};
 ghost use Rattle.kept_book.specs.Leading.{LeadTo};
 ghost use Rattle.kept_ledger.specs.TermsView.{PlainTerms};
-ghost use Rattle.kept_lines.specs.Kept.{IsOnDisk, IsKept, IsUnkept, IsFlushed, IsHeld, IsLost, Stops, LeavesFront, script_on};
+ghost use Rattle.kept_lines.specs.Kept.{IsOnDisk, IsKept, IsUnkept, AddsAt, IsFlushed, IsHeld, IsLost, Stops, LeavesFront, script_on};
 
 use crate::fault::LinesFault;
 use crate::group::Group;
@@ -40,6 +40,7 @@ pub fn keep_events<D: Alter>(
     ensures clean { HasCleanDisk (state D.Store conn.new) → HasCleanDisk (state D.Store conn.old) }
     ensures kept { OnOk result (IsKept (state D.Store conn.old) (state D.Store conn.new) events.now) }
     ensures unkept { OnErr result (IsUnkept (state D.Store conn.old) (state D.Store conn.new) events.now) }
+    ensures times { OnOk result (AddsAt time (state D.Store conn.old) (state D.Store conn.new)) }
 {
     if events.is_empty() {
         return Ok(());
@@ -61,6 +62,7 @@ pub(crate) fn flush<D: Alter, W: Output>(
     ensures flushed { OnOk result (IsFlushed (state D.Store conn.old) (state D.Store conn.new) (W.contents out.old) (W.contents out.new)
         group.old.events.items group.new.events.items group.old.text.items group.new.text.items) }
     ensures lost { IfErr result (IsLost (state D.Store conn.old) (state D.Store conn.new) (W.contents out.old) (W.contents out.new) group.old.events.items group.old.text.items) }
+    ensures times { OnOk result (AddsAt time (state D.Store conn.old) (state D.Store conn.new)) }
 {
     match keep_events(alloc, conn, time, group.events.as_slice()) {
         Ok(()) => {}
@@ -89,6 +91,7 @@ fn flush_large<D: Alter, W: Output>(
         ⊎ IsFlushed (state D.Store conn.old) (state D.Store conn.new) (W.contents out.old) (W.contents out.new)
         group.old.events.items group.new.events.items group.old.text.items group.new.text.items) }
     ensures lost { IfErr result (IsLost (state D.Store conn.old) (state D.Store conn.new) (W.contents out.old) (W.contents out.new) group.old.events.items group.old.text.items) }
+    ensures times { OnOk result (AddsAt time (state D.Store conn.old) (state D.Store conn.new)) }
 {
     if group.text.len() < GROUP {
         return Ok(());
@@ -114,6 +117,7 @@ fn settle<D: Alter, K: MapKind, H: Hints<K, W>, W: Output>(
         ⊎ IsFlushed (state D.Store conn.old) (state D.Store conn.new) (W.contents out.old) (W.contents out.new)
         group.old.events.items group.new.events.items group.old.text.items group.new.text.items) }
     ensures lost { IfErr result (IsLost (state D.Store conn.old) (state D.Store conn.new) (W.contents out.old) (W.contents out.new) group.old.events.items group.old.text.items) }
+    ensures times { OnOk result (AddsAt time (state D.Store conn.old) (state D.Store conn.new)) }
 {
     let Some(wrong) = wrong else {
         return flush_large(alloc, conn, time, group, out);
@@ -151,6 +155,7 @@ pub fn keep_lines<D: Alter, K: MapKind, S: Supply<K>, H: Hints<K, W>, W: Output>
     ensures clean { HasCleanDisk (state D.Store conn.new) → HasCleanDisk (state D.Store conn.old) }
     ensures kept { HasCleanDisk (state D.Store conn.new) → (t : PlainTerms) → IsOnDisk t (state D.Store conn.old) book.old.plain
         → OnOk result (IsOnDisk t (state D.Store conn.new) book.new.plain) }
+    ensures times { OnOk result (AddsAt time (state D.Store conn.old) (state D.Store conn.new)) }
     ensures left { LeavesFront script.now.files.items (script_on book.old.plain script.now.text.items) (λ t. IsOnDisk t (state D.Store conn.old) book.old.plain) (state D.Store conn.new) (W.contents out.old) (W.contents out.new) }
     ensures stops { IfErr result (Stops script.now.files.items (script_on book.old.plain script.now.text.items) (λ t. IsOnDisk t (state D.Store conn.old) book.old.plain) (state D.Store conn.new) (W.contents out.old) (W.contents out.new)) }
 {

@@ -11,7 +11,7 @@ ghost use Rattle.thread_host_run.specs.HostRuns.{AreToldOf};
 ghost use Rattle.kept_ledger.specs.TermsView.{PlainTerms};
 ghost use Rattle.kept_ledger.specs.Ledger.{LeavesOnly};
 ghost use Rattle.kept_file.specs.Keeps.{HoldsOne};
-ghost use Rattle.kept_lines.specs.Kept.{IsOnDisk, IsKept, IsUnkept, IsLost};
+ghost use Rattle.kept_lines.specs.Kept.{IsOnDisk, IsKept, IsUnkept, AddsAt, IsLost};
 ghost use Rattle.thread_kept_frames.specs.Serving.{BeforeOrAfter, Stops};
 
 use crate::fault::ServeFault;
@@ -41,6 +41,7 @@ fn keep_and_write<D: Alter, W: Output>(
 ) -> Result<(), LinesFault>
     ensures clean { HasCleanDisk (state D.Store conn.new) → HasCleanDisk (state D.Store conn.old) }
     ensures kept { OnOk result (IsKept (state D.Store conn.old) (state D.Store conn.new) events.now) }
+    ensures times { OnOk result (AddsAt time (state D.Store conn.old) (state D.Store conn.new)) }
     ensures text { OnOk result (Appends (W.contents out.old) (W.contents out.new) text.now) }
     ensures lost { IfErr result (IsLost (state D.Store conn.old) (state D.Store conn.new) (W.contents out.old) (W.contents out.new) events.now text.now) }
     ensures refused { result ≡ Err LinesFault.Write → W.has_refused out.new }
@@ -95,6 +96,7 @@ pub fn keep_frames<D: Alter, K: MapKind + Send, R: Threads + Wait + Sync, W: Out
     ensures served { IfOk result (λ r. AreToldOf book.plain frames.items r.1.items r.0.plain (Appends (W.contents out.old) (W.contents out.new))) }
     ensures kept { HasCleanDisk (state D.Store conn.new) → (t : PlainTerms) → IsOnDisk t (state D.Store conn.old) book.plain
         → IfOk result (λ r. IsOnDisk t (state D.Store conn.new) r.0.plain) }
+    ensures times { OnOk result (AddsAt time (state D.Store conn.old) (state D.Store conn.new)) }
     ensures left { HasCleanDisk (state D.Store conn.new) → (t : PlainTerms) → IsOnDisk t (state D.Store conn.old) book.plain
         → LeavesOnly (HoldsOne t (BeforeOrAfter frames.items book.plain (W.contents out.old) (W.contents out.new))) (state D.Store conn.new) }
     ensures stops { IfErr result (Stops frames.items book.plain (λ t. IsOnDisk t (state D.Store conn.old) book.plain) (state D.Store conn.new) (W.contents out.old) (W.contents out.new)) }

@@ -1,7 +1,8 @@
 //! A script on the book of a database, and frames that are served on the book that it left.
 
-ghost use Rattle.std.specs.Prelude.{◌≡◌};
+ghost use Rattle.std.specs.Prelude.{◌≡◌, OnOk};
 ghost use Rattle.sqlite.specs.Held.{state};
+ghost use Rattle.kept_lines.specs.Begun.{AddsToBook};
 ghost use Rattle.thread_kept_frames.specs.Hosts.{ServesKept};
 
 use crate::host_fault::HostRunFault;
@@ -50,7 +51,8 @@ pub fn serve_kept<D: Alter, R: Threads + Wait + Sync, H: Hints<HostKind, W>, W: 
     hints: &mut H,
     out: &mut W,
 ) -> Result<ServedHost, HostRunFault>
-    ensures { ServesKept terms script.now.files.items script.now.text.items frames.items (state D.Store conn.old) (state D.Store conn.new) (W.contents out.old) (W.contents out.new) result }
+    ensures serves { ServesKept terms script.now.files.items script.now.text.items frames.items (state D.Store conn.old) (state D.Store conn.new) (W.contents out.old) (W.contents out.new) result }
+    ensures times { OnOk result (AddsToBook terms time (state D.Store conn.old) (state D.Store conn.new)) }
 {
     let mut book: Book<HostKind> = match begin(alloc, conn, terms) {
         Ok(book) => book,

@@ -7,7 +7,7 @@ use Rattle.bpfcon.proofs.OnBook.{ran_on}
 use Rattle.bpfcon.proofs.book.run_on_book.Goals as goal
 
 pub returns-in-Line-clause-ran : goal.returns-in-Line-clause-ran
-returns-in-Line-clause-ran g c = rw c.in-Line.is c.do_line.ensures.ran
+returns-in-Line-clause-ran g c = rw c.in-Line.is c.line_on_book.ensures.ran
 
 pub returns-in_ok-script-in-Input-clause-ran : goal.returns-in_ok-script-in-Input-clause-ran
 returns-in_ok-script-in-Input-clause-ran g c =
@@ -25,7 +25,7 @@ pub returns-in-Host-clause-ran : goal.returns-in-Host-clause-ran
 returns-in-Host-clause-ran g c = rw (c.in-Host.is, ← c.as_str-path.ensures.value, ← c.as_str-frames.ensures.value) c.serve_on_book.ensures.ran
 
 pub returns-in-Line-clause-only : goal.returns-in-Line-clause-only
-returns-in-Line-clause-only g c = may EndsBook EndsServed c.do_line.result (λ fault ends. inr ends) c.do_line.ensures.only
+returns-in-Line-clause-only g c = may EndsBook EndsServed c.line_on_book.result (λ fault ends. inr ends) c.line_on_book.ensures.only
 
 pub returns-in_ok-script-in-Input-clause-only : goal.returns-in_ok-script-in-Input-clause-only
 returns-in_ok-script-in-Input-clause-only g c = may EndsBook EndsServed c.run_script.result (λ fault ends. inr ends) c.run_script.ensures.only

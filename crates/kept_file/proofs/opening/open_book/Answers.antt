@@ -1,8 +1,8 @@
-use Rattle.std.proofs.Common.{◌≡◌, OnOk, arith, sym, subst}
+use Rattle.std.proofs.Common.{◌≡◌, OnOk, arith, refl, sym, subst}
 use Rattle.sqlite.specs.Held.{state}
 use Rattle.sqlite.specs.State.{HasCleanDisk}
 use Rattle.sqlite.proofs.StateLemmas.{survives_then}
-use Rattle.kept_ledger.specs.Ledger.{IsLedger}
+use Rattle.kept_ledger.specs.Ledger.{events_of, IsLedger, IsLedgerOf}
 use Rattle.kept_file.specs.Faults.{IsOpened}
 use Rattle.kept_file.proofs.OpenedLemmas.{opened_as}
 use Rattle.kept_file.proofs.opening.open_book.Goals as goal
@@ -26,6 +26,15 @@ returns-in-Ok-clause-same g c clean t events was =
     let same : c.in-Ok.terms ≡ t = c.in-Ok.ensures.terms mid_clean t events was in
     let ledger : IsLedger t events mid = c.in-Ok.ensures.reads.same mid_clean t events was in
     subst (λ u. OnOk c.with_terms.result (IsLedger u events new)) same (c.with_terms.ensures.same clean events (subst (λ u. IsLedger u events mid) (sym same) ledger))
+
+pub returns-in-Ok-clause-times : goal.returns-in-Ok-clause-times
+returns-in-Ok-clause-times g c clean t es was =
+    let mid = state g.S.Store c.read_terms.new.conn in
+    let new = state g.S.Store c.with_terms.new.conn in
+    let mid_clean : HasCleanDisk mid = omega (arith, clean, c.with_terms.ensures.crash.clean) in
+    let same : c.in-Ok.terms ≡ t = c.in-Ok.ensures.terms mid_clean t (events_of es) (record { entries = es; are = refl; ledger = was }) in
+    let ledger : IsLedgerOf t es mid = c.in-Ok.ensures.reads.stays mid_clean t es was in
+    subst (λ u. OnOk c.with_terms.result (IsLedgerOf u es new)) same (c.with_terms.ensures.times clean es (subst (λ u. IsLedgerOf u es mid) (sym same) ledger))
 
 pub returns-in-Ok-clause-bare : goal.returns-in-Ok-clause-bare
 returns-in-Ok-clause-bare g c clean has =

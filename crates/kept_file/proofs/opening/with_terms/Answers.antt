@@ -9,5 +9,8 @@ returns-in-Ok-clause-opened g c clean events was = subst (λ es. IsOpened c.args
 pub returns-in-Ok-clause-same : goal.returns-in-Ok-clause-same
 returns-in-Ok-clause-same g c clean events was = on_ok c.opened.result (c.in-Ok.ensures.reads.same clean c.args.terms events was)
 
+pub returns-in-Ok-clause-times : goal.returns-in-Ok-clause-times
+returns-in-Ok-clause-times g c clean es was = on_ok c.opened.result (c.in-Ok.ensures.reads.stays clean c.args.terms es was)
+
 pub returns-in-Err-clause-opened : goal.returns-in-Err-clause-opened
 returns-in-Err-clause-opened g c clean events was = c.in-Err.ensures.reads.fit clean c.args.terms events was

@@ -24,3 +24,6 @@ returns-in-Err-put-clause-lost g c = (
   subst (IsKept (state g.D.Store c.args.conn.now) (state g.D.Store c.keep_events.new.conn)) c.as_slice.ensures.value c.in-Ok.ensures.kept,
   subst (WritesFront (g.W.Output.contents c.args.out.now) (g.W.Output.contents c.put.new.out)) c.as_slice-2.ensures.value c.in-Err-put.ensures.text,
 )
+
+pub returns-in-Ok-put-clause-times : goal.returns-in-Ok-put-clause-times
+returns-in-Ok-put-clause-times g c = c.in-Ok.ensures.times

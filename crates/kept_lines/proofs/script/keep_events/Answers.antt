@@ -1,5 +1,13 @@
 use Rattle.std.proofs.Common.{inl, inr}
+use Rattle.sqlite.specs.Held.{state}
+use Rattle.kept_lines.proofs.Added.{added_none, added_these}
 use Rattle.kept_lines.proofs.script.keep_events.Goals as goal
+
+pub returns-then-is_empty-clause-times : goal.returns-then-is_empty-clause-times
+returns-then-is_empty-clause-times g c = added_none c.args.time (state g.D.Store c.args.conn.now)
+
+pub returns-in-Ok-clause-times : goal.returns-in-Ok-clause-times
+returns-in-Ok-clause-times g c = added_these c.args.time (state g.D.Store c.args.conn.now) (state g.D.Store c.keep.new.conn) c.args.events.now (λ clean t es was. c.in-Ok.ensures.times clean t es was)
 
 pub returns-in-Ok-clause-kept : goal.returns-in-Ok-clause-kept
 returns-in-Ok-clause-kept g c clean t b after on leads =

@@ -8,7 +8,7 @@ returns-in-Ok-served g c = record {
   new = record { conn = c.serve_kept-served.new.conn };
   opened = c.in-Ok-open_waiting.ensures.opened;
   ready = c.in-Ok-open_waiting.ensures.ready;
-  went = c.in-Ok-served.ensures;
+  went = c.in-Ok-served.ensures.serves;
 }
 
 pub returns-in-Err-served : goal.returns-in-Err-served
@@ -19,5 +19,5 @@ returns-in-Err-served g c = record {
   new = record { conn = c.serve_kept-served.new.conn };
   opened = c.in-Ok-open_waiting.ensures.opened;
   ready = c.in-Ok-open_waiting.ensures.ready;
-  went = c.in-Err-served.ensures;
+  went = c.in-Err-served.ensures.serves;
 }

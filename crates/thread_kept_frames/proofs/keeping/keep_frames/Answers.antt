@@ -66,3 +66,6 @@ returns-in-Err-keep_and_write-clause-stops g c =
     (c.as_slice-2.ensures.value ∙ c.in-Ok.ensures.text) c.in-Err-keep_and_write.ensures.lost in
     lost_stops c.args.frames.items b (g.W.Output.contents c.args.out.now) c.in-Ok.served.ends.items after c.in-Ok.ensures.served (state g.D.Store c.args.conn.now) (state g.D.Store c.keep_and_write.new.conn)
     (g.W.Output.contents c.keep_and_write.new.out) c.as_slice.result.now leads c.in-Err-keep_and_write.fault lost
+
+pub returns-in-Ok-keep_and_write-clause-times : goal.returns-in-Ok-keep_and_write-clause-times
+returns-in-Ok-keep_and_write-clause-times g c = c.in-Ok-keep_and_write.ensures.times

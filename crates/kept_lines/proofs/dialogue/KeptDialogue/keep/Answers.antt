@@ -57,3 +57,6 @@ returns-clause-stops g c =
     rw (← c.self.view_is)
     (stops_here g.S.Supply.gives g.K.MapKind.seen c.args.files.now c.args.supply.now opening old start old events text c.args.supply.now opening start
     (begins g.S.Supply.gives g.K.MapKind.seen c.args.files.now c.args.supply.now opening old start events text c.new-group.ensures.events c.new-group.ensures.text) c.in-Err.fault)
+
+pub returns-in-Ok-flush-clause-times : goal.returns-in-Ok-flush-clause-times
+returns-in-Ok-flush-clause-times g c = c.in-Ok-flush.ensures.times

@@ -1,0 +1,5 @@
+pub mod TakingRead
+pub mod TakingSteps
+pub mod Together
+pub mod RangeKept
+pub mod OnBook
