@@ -29,13 +29,13 @@ of_read name read.NoMemory fault is = subst EndsLines (sym is) tt
 of_read name (read.Unread cause) fault (inl none) = subst EndsLines (sym none) tt
 of_read name (read.Unread cause) fault (inr (it, named, is)) = subst EndsLines (sym is) tt
 
-pub of_serving : (why : RunHostFault) (fault : Fault) → IsOfServing why fault → EndsFrames fault
-of_serving served.BadDevices fault is = subst EndsFrames (sym is) tt
-of_serving served.BadLimits fault is = subst EndsFrames (sym is) tt
-of_serving served.BadFrames fault (why, is) = subst EndsFrames (sym is) tt
-of_serving served.NoMemory fault is = subst EndsFrames (sym is) tt
-of_serving served.NoThread fault is = subst EndsFrames (sym is) tt
-of_serving served.Write fault is = subst EndsFrames (sym is) tt
+pub of_serving : (bytes : List ℕ) (why : RunHostFault) (fault : Fault) → IsOfServing bytes why fault → EndsFrames fault
+of_serving bytes served.BadDevices fault is = subst EndsFrames (sym is) tt
+of_serving bytes served.BadLimits fault is = subst EndsFrames (sym is) tt
+of_serving bytes served.BadFrames fault (why, tells, is) = subst EndsFrames (sym is) tt
+of_serving bytes served.NoMemory fault is = subst EndsFrames (sym is) tt
+of_serving bytes served.NoThread fault is = subst EndsFrames (sym is) tt
+of_serving bytes served.Write fault is = subst EndsFrames (sym is) tt
 
 -- what ends lines ends what they are lines of
 pub in_frames : (fault : Fault) → EndsLines fault → EndsFrames fault

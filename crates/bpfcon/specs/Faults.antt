@@ -13,9 +13,14 @@ use Rattle.console_input.specs.declared.fault.ReadFault.{ReadFault}
 use Rattle.console_input.specs.declared.fault.ReadFault.TheVariants as read
 use Rattle.bpfcon.specs.declared.fault.Fault.{Fault}
 use Rattle.thread_host_run.specs.declared.no_frames.NoFrames.{NoFrames}
+use Rattle.thread_host_run.specs.FramesOf.{TellsNoFrames}
+use Rattle.kept_lines.specs.declared.fault.InFileFault.TheVariants.{Unopened, Kept}
+use Rattle.thread_kept_frames.specs.declared.host_fault.HostRunFault.TheVariants.{Script, Frames}
+use Rattle.thread_kept_frames.specs.declared.host_fault.HostInFileFault.{HostInFileFault}
+use Rattle.thread_kept_frames.specs.declared.host_fault.HostInFileFault.TheVariants as in_file
 use Rattle.thread_live.specs.declared.fault.LineFault.{LineFault}
 use Rattle.thread_live.specs.declared.fault.LineFault.TheVariants as line
-use Rattle.bpfcon.specs.declared.fault.Fault.TheVariants.{Usage, Command, NoWord, NotOfBook, BadBook, Unread, BadFrames, NoMemory, NoThread, Spent, CannotWrite}
+use Rattle.bpfcon.specs.declared.fault.Fault.TheVariants.{Usage, Command, NoWord, NotOfBook, BadBook, Unread, BadFrames, NoMemory, NoThread, Spent, OfFile, OfFrames, CannotWrite}
 
 -- the host's devices and limits are good ones
 abbrev pub fault_of_host : HostFault → Fault
@@ -25,13 +30,24 @@ fault_of_host host.NoMemory = NoMemory
 fault_of_host host.Write = CannotWrite
 
 -- a host run did not come to its end; of a file that has no frames it is told why
-abbrev pub IsOfServing : RunHostFault → Fault → Type 0
-IsOfServing served.BadDevices fault = fault ≡ NoMemory
-IsOfServing served.BadLimits fault = fault ≡ NoMemory
-IsOfServing served.BadFrames fault = (why : NoFrames) × (fault ≡ BadFrames why)
-IsOfServing served.NoMemory fault = fault ≡ NoMemory
-IsOfServing served.NoThread fault = fault ≡ NoThread
-IsOfServing served.Write fault = fault ≡ CannotWrite
+abbrev pub IsNoFrames : List ℕ → Fault → Type 0
+IsNoFrames bytes fault = (why : NoFrames) × TellsNoFrames bytes why × (fault ≡ BadFrames why)
+
+abbrev pub IsOfServing : List ℕ → RunHostFault → Fault → Type 0
+IsOfServing bytes served.BadDevices fault = fault ≡ NoMemory
+IsOfServing bytes served.BadLimits fault = fault ≡ NoMemory
+IsOfServing bytes served.BadFrames fault = IsNoFrames bytes fault
+IsOfServing bytes served.NoMemory fault = fault ≡ NoMemory
+IsOfServing bytes served.NoThread fault = fault ≡ NoThread
+IsOfServing bytes served.Write fault = fault ≡ CannotWrite
+
+-- nor did one on the book in a file, which the fault names
+abbrev pub IsOfKept : String Global → List ℕ → HostInFileFault → Fault → Type 0
+IsOfKept file bytes in_file.BadFrames fault = IsNoFrames bytes fault
+IsOfKept file bytes in_file.NoMemory fault = fault ≡ NoMemory
+IsOfKept file bytes (in_file.Unopened error) fault = fault ≡ OfFile file (Unopened error)
+IsOfKept file bytes (in_file.Kept (Script why)) fault = fault ≡ OfFile file (Kept why)
+IsOfKept file bytes (in_file.Kept (Frames why)) fault = fault ≡ OfFrames file why
 
 abbrev pub fault_of_line : LineFault → Fault
 fault_of_line line.Write = CannotWrite

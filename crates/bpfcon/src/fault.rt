@@ -110,7 +110,7 @@ impl Fault {
 
     /// The fault of a program that could not read or serve frames of these bytes.
     pub fn of_serving(alloc: Global, bytes: &[u8], fault: RunHostFault) -> Fault
-        ensures { IsOfServing fault result }
+        ensures { IsOfServing bytes.now fault result }
     {
         match fault {
             RunHostFault::BadFrames => Fault::BadFrames(why_none(alloc, bytes)),

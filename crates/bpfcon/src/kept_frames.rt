@@ -4,6 +4,7 @@ ghost use Rattle.std.specs.Prelude.{IfOk, IfErr, string_bytes};
 ghost use Rattle.thread_kept_frames.specs.Hosts.{ServesInFile};
 ghost use Rattle.bpfcon.specs.Book.{ServedOn};
 ghost use Rattle.bpfcon.specs.Ends.{EndsServed};
+ghost use Rattle.bpfcon.specs.Faults.{IsOfKept};
 
 use crate::beside::{Beside, Origin};
 use crate::fault::Fault;
@@ -43,7 +44,8 @@ fn serve_at<
 
 // Why script and frames did not come to their end on the book of a file.
 fn fault_in_file(alloc: Global, file: String, frames: &[u8], fault: HostInFileFault) -> Fault
-    ensures { EndsServed result }
+    ensures is { IsOfKept file frames.now fault result }
+    ensures only { EndsServed result }
 {
     match fault {
         HostInFileFault::BadFrames => Fault::BadFrames(why_none(alloc, frames)),

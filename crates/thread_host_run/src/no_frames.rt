@@ -1,8 +1,6 @@
 //! Why the bytes of a file are no frames.
 
-ghost use Rattle.std.specs.Prelude.{◌≡◌, ◌↔◌, is_some, true};
-ghost use Rattle.thread_capture.specs.Captures.{order_of};
-ghost use Rattle.thread_host_run.specs.declared.no_frames.NoFrames.TheVariants.{Capture};
+ghost use Rattle.thread_host_run.specs.FramesOf.{TellsNoFrames};
 
 use crate::fault::RunHostFault;
 use crate::frames::frames_in;
@@ -67,7 +65,7 @@ fn bad_line(alloc: Global, text: &[u8]) -> Result<Option<u64>, RunHostFault> {
 
 /// Why these bytes are no frames, of which [`frames_in`] made none.
 pub fn why_none(alloc: Global, bytes: &[u8]) -> NoFrames
-    ensures capture { (result ≡ Capture) ↔ (is_some (order_of bytes.now) ≡ true) }
+    ensures capture { TellsNoFrames bytes.now result }
 {
     if is_capture(bytes) {
         return NoFrames::Capture;
