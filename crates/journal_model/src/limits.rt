@@ -1,7 +1,7 @@
 //! How far a book may go.
 
 /// The limits of a book. `Book::new` of bt_journal takes a journal of 1 to 1,000,000 moments, and all values of the others. Who
-/// makes the book chooses them: the program does in `bpfcon/src/limits.rt`.
+/// makes the book chooses them: the program does in `console_script/src/host.rt`.
 #[derive(Clone, Copy, PartialEq, Eq, Debug)]
 pub struct Limits {
     /// How many moments may be in force: 1 to 1,000,000. The oldest joins the base if there would be more.
