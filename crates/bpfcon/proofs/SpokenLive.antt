@@ -59,7 +59,7 @@ module _ {K S E : Type 0} {g : Ghosts PlainBook PlainEvent Answer} (gives : S �
 module _ {K S : Type 0} {g : Ghosts PlainBook PlainEvent Answer} (gives : S → MapAttr → Result K NoBox → S → Type 0) (kind : K → Seen) (named : List ℕ → List FileText → Type 0) (desk : Desk K) (traffic : Traffic) (most : ℕ)
     (input : Option (List ℕ)) (from : Footing S g) (before : Summary) where
   pub come_live_none : HasComeLive gives kind named desk traffic most input from before input from before
-  come_live_none = record { said = []; went = (refl, refl); gave = gave_none input; none_ends = tt }
+  come_live_none = record { said = []; went = refl; gave = gave_none input; none_ends = tt }
 
   pub come_live_more : (left next : Option (List ℕ)) (mid to : Footing S g) (between behind : Summary) (files : List FileText) (given line after : List ℕ)
       → HasComeLive gives kind named desk traffic most input from before left mid between → IfSome left (λ text. given ≡ take_through 10 text) → DropsThrough left next 10 → 0 < length given
@@ -69,7 +69,7 @@ module _ {K S : Type 0} {g : Ghosts PlainBook PlainEvent Answer} (gives : S → 
       let it = said line files in
       record {
         said = it ∷ come.said;
-        went = (mid, between, come.went, subst (λ m. GoesLive gives kind named desk traffic m it mid between to behind) same goes);
+        went = record { mid = (mid, between); earlier = come.went; last = subst (λ m. GoesLive gives kind named desk traffic m it mid between to behind) same goes };
         gave = gave_more input left next come.said it given after come.gave read drops some cut;
         none_ends = (goes_on, come.none_ends);
       }

@@ -1,5 +1,5 @@
 -- A talk with a live host: lines that are answered one by one, each when it is given.
-use Rattle.std.specs.Prelude.{◌≡◌, ◌⊎◌, ℕ, List, [], ◌∷◌, Option, Some, None, Result, IfOk}
+use Rattle.std.specs.Prelude.{◌≡◌, ◌⊎◌, ℕ, List, Option, Some, None, Result, IfOk}
 use Rattle.std.specs.Io.KnownBytes.{Appends, Keeps}
 use Rattle.std.specs.declared.alloc.AllocError.{AllocError}
 use Rattle.bt_mapkind.specs.declared.attr.MapAttr.{MapAttr}
@@ -26,7 +26,7 @@ use Rattle.console_looks.specs.declared.look.Look.TheVariants.{Show, DryUndo}
 use Rattle.console_looks.specs.declared.shown.Showing.{Showing}
 use Rattle.thread_asides.specs.Looked.{ShownAt}
 use Rattle.console_talk.specs.declared.manner.Manner.TheVariants.{Dialogue}
-use Rattle.console_talk.specs.Talk.{Said, Asks, looks, Gave, NoneEnds, MayStop}
+use Rattle.console_talk.specs.Talk.{Said, Asks, looks, HasComeTo, MayStop}
 
 module _ {K : Type 0} {g : Ghosts PlainBook PlainEvent Answer} (desk : Desk K) where
   -- what there is to show of a serial, as the journal was in one call of a seat, was written; or that there was no memory to look
@@ -80,18 +80,9 @@ module _ {K S : Type 0} {g : Ghosts PlainBook PlainEvent Answer} (gives : S → 
   abbrev pub GoesLive : Said → Footing S g → Summary → Footing S g → Summary → Type 0
   GoesLive it from before to behind = IsHelpedLive it from before to behind ⊎ (IsLookedLive it from before to behind ⊎ IsHeardLive it from before to behind)
 
-  -- lines went one after the other, of which the last stands first
-  abbrev pub AllGoLive : List Said → Footing S g → Summary → Footing S g → Summary → Type 0
-  AllGoLive [] from before to behind = (to ≡ from) × (behind ≡ before)
-  AllGoLive (it ∷ earlier) from before to behind =
-      (mid : Footing S g) × (between : Summary) × AllGoLive earlier from before mid between × GoesLive it mid between to behind
-
   -- up to here, lines of an input were given and went so, and none of them was a `quit`
-  pub record HasComeLive (input : Option (List ℕ)) (from : Footing S g) (before : Summary) (left : Option (List ℕ)) (to : Footing S g) (behind : Summary) : Type 0 where
-    pub said : List Said
-    pub went : AllGoLive said from before to behind
-    pub gave : Gave input said left
-    pub none_ends : NoneEnds Dialogue said
+  abbrev pub HasComeLive : Option (List ℕ) → Footing S g → Summary → Option (List ℕ) → Footing S g → Summary → Type 0
+  HasComeLive input from before left to behind = HasComeTo (λ it (p q : Footing S g × Summary). GoesLive it p.0 p.1 q.0 q.1) Dialogue input (from, before) left (to, behind)
 
   -- each line of an input went so, up to its end or to a `quit`
   pub record TalkedLive (input : Option (List ℕ)) (from : Footing S g) (before : Summary) (to : Footing S g) (behind : Summary) : Type 0 where

@@ -28,7 +28,7 @@ use Rattle.console_input.specs.declared.source.TheConstants.{MOST_SCRIPT}
 use Rattle.console_looks.specs.declared.look.Look.{Look}
 use Rattle.console_talk.specs.declared.manner.Manner.{Manner}
 use Rattle.console_talk.specs.declared.manner.Manner.TheVariants.{Script, Dialogue}
-use Rattle.console_talk.specs.Talk.{Said, said, Standing, silent, before, behind, HasFirst, Asks, looks, TellsLook, IsAnswered, Goes, AllGo, lines_then, Gave, Ends, HasCome, MayStopAt, MayStop, TookAtMost, Talked, with_boxes, front, IsWhole}
+use Rattle.console_talk.specs.Talk.{Said, said, Standing, Place, place, silent, before, behind, HasFirst, Asks, looks, TellsLook, IsAnswered, Goes, GoesAt, AllGo, lines_then, Gave, Ends, HasCome, MayStopAt, MayStop, TookAtMost, Talked, with_boxes, front, IsWhole}
 
 -- ---- the first line of a text is that of its bytes through the first line feed
 lines_lf : (byte : ℕ) (text : List ℕ) → (byte == 10) ≡ true → lines_of (byte ∷ text) ≡ [] ∷ lines_of text
@@ -224,7 +224,7 @@ leads_kept gives seen files from to s end old mid new it kept = record {
 
 module _ {S K : Type 0} (gives : S → MapAttr → Result K NoBox → S → Type 0) (seen : K → Seen) (named : List ℕ → List FileText → Type 0) where
   pub come_none : (manner : Manner) (input : Option (List ℕ)) (b : PlainBook) (from : S) (old : Option (List ℕ)) → HasCome (AreSupplied gives seen) named manner input b from old input from (silent b) old
-  come_none manner input b from old = record { said = []; went = (refl, refl, refl); gave = gave_none input; none_ends = tt }
+  come_none manner input b from old = record { said = []; went = refl; gave = gave_none input; none_ends = tt }
 
   pub answered_by : {a : Option Mishap} (it : Said) (from to : S) (at end : Standing) (old new : Option (List ℕ)) → named it.line it.files → LeadsOn gives seen it.files from (before at it.line) old to (behind end) new a
       → IsAnswered (AreSupplied gives seen) named it from at old to end new
@@ -252,7 +252,7 @@ module _ {S K : Type 0} (gives : S → MapAttr → Result K NoBox → S → Type
       let it : Said = said line files in
       record {
         said = it ∷ come.said;
-        went = record { from = between; at = at; old = mid; earlier = come.went; last = goes };
+        went = record { mid = place between at mid; earlier = come.went; last = goes };
         gave = gave_more input left next come.said it given after come.gave read drops some cut;
         none_ends = (goes_on, come.none_ends);
       }
@@ -276,21 +276,19 @@ module _ {S : Type 0} (P : S → List Step → S → Type 0) (Q : List Step → 
     };
   }))
 
-  all_go_so : (manner : Manner) (said : List Said) (from : S) (at : Standing) (old : Option (List ℕ)) (to : S) (end : Standing) (new : Option (List ℕ)) → AllGo P named manner said from at old to end new → AllGo (with_boxes Q) named manner said tt at old tt end new
-  all_go_so manner [] from at old to end new it = (refl, it.1, it.2)
-  all_go_so manner (last ∷ earlier) from at old to end new it = record {
-    from = tt;
-    at = it.at;
-    old = it.old;
-    earlier = all_go_so manner earlier from at old it.from it.at it.old it.earlier;
-    last = goes_so manner last it.from it.at it.old to end new it.last;
+  all_go_so : (manner : Manner) (said : List Said) (from to : Place S) → AllGo (GoesAt P named manner) said from to → AllGo (GoesAt (with_boxes Q) named manner) said (place tt from.at from.text) (place tt to.at to.text)
+  all_go_so manner [] from to it = ap (λ (p : Place S). place tt p.at p.text) it
+  all_go_so manner (last ∷ earlier) from to it = record {
+    mid = place tt it.mid.at it.mid.text;
+    earlier = all_go_so manner earlier from it.mid it.earlier;
+    last = goes_so manner last it.mid.boxes it.mid.at it.mid.text to.boxes to.at to.text it.last;
   }
 
   pub come_so : (manner : Manner) (input : Option (List ℕ)) (b : PlainBook) (from : S) (old left : Option (List ℕ)) (to : S) (at : Standing) (new : Option (List ℕ))
       → HasCome P named manner input b from old left to at new → HasCome (with_boxes Q) named manner input b tt old left tt at new
   come_so manner input b from old left to at new it = record {
     said = it.said;
-    went = all_go_so manner it.said from (silent b) old to at new it.went;
+    went = all_go_so manner it.said (place from (silent b) old) (place to at new) it.went;
     gave = it.gave;
     none_ends = it.none_ends;
   }

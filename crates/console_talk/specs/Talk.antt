@@ -32,6 +32,15 @@ pub record Standing : Type 0 where
 abbrev pub standing : Console → Summary → Standing
 standing c summary = record { console = c; summary = summary }
 
+-- and with what supplies its boxes, and what is written
+pub record Place (S : Type 0) : Type 0 where
+  pub boxes : S
+  pub at : Standing
+  pub text : Option (List ℕ)
+
+abbrev pub place : {S : Type 0} → S → Standing → Option (List ℕ) → Place S
+place boxes at text = record { boxes = boxes; at = at; text = text }
+
 -- before the first line
 abbrev pub silent : PlainBook → Standing
 silent b = standing (console_of b no_runs) no_counts
@@ -102,18 +111,8 @@ module _ {S : Type 0} (supplied : S → List Step → S → Type 0) (named : Lis
   Goes manner it from at old to end new =
       IsHelped manner it from at old to end new ⊎ (IsLooked manner it from at old to end new ⊎ IsHeard manner it from at old to end new)
 
-  -- the last line went where the earlier ones led
-  pub record LastGoes (manner : Manner) (it : Said) (Led : S → Standing → Option (List ℕ) → Type 0) (to : S) (end : Standing) (new : Option (List ℕ)) : Type 0 where
-    pub from : S
-    pub at : Standing
-    pub old : Option (List ℕ)
-    pub earlier : Led from at old
-    pub last : Goes manner it from at old to end new
-
-  -- lines went one after the other, of which the last stands first
-  abbrev pub AllGo : Manner → List Said → S → Standing → Option (List ℕ) → S → Standing → Option (List ℕ) → Type 0
-  AllGo manner [] from at old to end new = (to ≡ from) × (end ≡ at) × (new ≡ old)
-  AllGo manner (it ∷ earlier) from at old to end new = LastGoes manner it (AllGo manner earlier from at old) to end new
+  abbrev pub GoesAt : Manner → Said → Place S → Place S → Type 0
+  GoesAt manner it from to = Goes manner it from.boxes from.at from.text to.boxes to.at to.text
 
 -- these lines, of which the last stands first, and then the others
 abbrev pub lines_then : List Said → List (List ℕ) → List (List ℕ)
@@ -138,6 +137,26 @@ abbrev pub NoneEnds : Manner → List Said → Type 0
 NoneEnds manner [] = ⊤
 NoneEnds manner (it ∷ earlier) = ¬ (Ends manner it.line) × NoneEnds manner earlier
 
+-- ---- lines that go one after the other, by what each leads from and to
+module _ {P : Type 0} (goes : Said → P → P → Type 0) where
+  -- the last line went on from where the earlier ones led
+  pub record LastGoes (it : Said) (Led : P → Type 0) (to : P) : Type 0 where
+    pub mid : P
+    pub earlier : Led mid
+    pub last : goes it mid to
+
+  -- all went, of which the last stands first
+  abbrev pub AllGo : List Said → P → P → Type 0
+  AllGo [] from to = to ≡ from
+  AllGo (it ∷ earlier) from to = LastGoes it (AllGo earlier from) to
+
+  -- up to here, lines of an input were given and went so, and none of them ended the talk
+  pub record HasComeTo (manner : Manner) (input : Option (List ℕ)) (from : P) (left : Option (List ℕ)) (to : P) : Type 0 where
+    pub said : List Said
+    pub went : AllGo said from to
+    pub gave : Gave input said left
+    pub none_ends : NoneEnds manner said
+
 -- a talk may stop at the end of its input, and at a line that ends it
 abbrev pub MayStopAt : Manner → List (List ℕ) → Type 0
 MayStopAt manner [] = ⊤
@@ -154,12 +173,8 @@ TookAtMost most (Some text) None = ⊥
 TookAtMost most (Some text) (Some left) = length text ≤ length left + most
 
 module _ {S : Type 0} (supplied : S → List Step → S → Type 0) (named : List ℕ → List FileText → Type 0) (manner : Manner) (input : Option (List ℕ)) (b : PlainBook) (from : S) (old : Option (List ℕ)) where
-  -- up to here, lines of an input were given and went so, and none of them ended the talk
-  pub record HasCome (left : Option (List ℕ)) (to : S) (at : Standing) (new : Option (List ℕ)) : Type 0 where
-    pub said : List Said
-    pub went : AllGo supplied named manner said from (silent b) old to at new
-    pub gave : Gave input said left
-    pub none_ends : NoneEnds manner said
+  abbrev pub HasCome : Option (List ℕ) → S → Standing → Option (List ℕ) → Type 0
+  HasCome left to at new = HasComeTo (GoesAt supplied named manner) manner input (place from (silent b) old) left (place to at new)
 
   -- each line of an input went so, up to its end or to a line that ends the talk
   pub record Talked (book : PlainBook) (to : S) (new : Option (List ℕ)) (summary : Summary) : Type 0 where
