@@ -8,43 +8,48 @@ use Rattle.bpfcon.specs.Faults.{IsOfArgs}
 use Rattle.bpfcon.specs.declared.fault.Fault.{Fault}
 use Rattle.bpfcon.specs.declared.fault.Fault.TheVariants.{Unread, BadFrames, NoMemory, NoThread, Spent, OfFile, OfFrames, OfLog, CannotWrite}
 
--- lines: a lack of memory, an input that is not read, an output that is not written
-abbrev pub EndsLines : Fault → Type 0
-EndsLines NoMemory = ⊤
-EndsLines (Unread name cause) = ⊤
-EndsLines CannotWrite = ⊤
-EndsLines _ = ⊥
+-- what ends a part: a lack of memory and an input that is not read end any; the others may, as the part refuses to write, serves
+-- frames, is a live host, or has its book in a file
+abbrev pub EndsPart : Type 0 → Type 0 → Type 0 → Type 0 → Fault → Type 0
+EndsPart refused frames live book NoMemory = ⊤
+EndsPart refused frames live book (Unread name cause) = ⊤
+EndsPart refused frames live book CannotWrite = refused
+EndsPart refused frames live book (BadFrames why) = frames
+EndsPart refused frames live book NoThread = frames
+EndsPart refused frames live book Spent = live
+EndsPart refused frames live book (OfFile file fault) = book
+EndsPart refused frames live book (OfLog file fault) = book
+EndsPart refused frames live book _ = ⊥
 
--- a host run, besides: bytes that are no frames, a thread that does not start
-abbrev pub EndsFrames : Fault → Type 0
-EndsFrames (BadFrames why) = ⊤
-EndsFrames NoThread = ⊤
-EndsFrames fault = EndsLines fault
+abbrev pub EndsReading : Fault → Type 0
+EndsReading = EndsPart ⊥ ⊥ ⊥ ⊥
 
--- a live host, besides: a console whose calls are spent
-abbrev pub EndsLive : Fault → Type 0
-EndsLive Spent = ⊤
-EndsLive fault = EndsFrames fault
+-- an output that is not written ends what writes to it only if it has refused a write or a flush
+abbrev pub EndsLines : Type 0 → Fault → Type 0
+EndsLines refused = EndsPart refused ⊥ ⊥ ⊥
 
--- lines on the book in a file, besides: a book that is not opened or not kept, a log that is not told
-abbrev pub EndsBook : Fault → Type 0
-EndsBook (OfFile file fault) = ⊤
-EndsBook (OfLog file fault) = ⊤
-EndsBook fault = EndsLines fault
+abbrev pub EndsFrames : Type 0 → Fault → Type 0
+EndsFrames refused = EndsPart refused ⊤ ⊥ ⊥
 
--- frames on it, besides: bytes that are no frames, frames that are not served, not kept or not told
+abbrev pub EndsLive : Type 0 → Fault → Type 0
+EndsLive refused = EndsPart refused ⊤ ⊤ ⊥
+
+abbrev pub EndsBook : Type 0 → Fault → Type 0
+EndsBook refused = EndsPart refused ⊥ ⊥ ⊤
+
+-- frames on the book in a file, besides: bytes that are no frames, frames that are not served, not kept or not told
 abbrev pub EndsOfFrames : Fault → Type 0
 EndsOfFrames (BadFrames why) = ⊤
 EndsOfFrames (OfFrames file fault) = ⊤
 EndsOfFrames _ = ⊥
 
-abbrev pub EndsServed : Fault → Type 0
-EndsServed fault = EndsOfFrames fault ⊎ EndsBook fault
+abbrev pub EndsServed : Type 0 → Fault → Type 0
+EndsServed refused fault = EndsOfFrames fault ⊎ EndsBook refused fault
 
 -- what was asked, with a book in a file or without
-abbrev pub EndsRun : Fault → Type 0
-EndsRun fault = EndsLive fault ⊎ EndsServed fault
+abbrev pub EndsRun : Type 0 → Fault → Type 0
+EndsRun refused fault = EndsLive refused fault ⊎ EndsServed refused fault
 
--- the program: arguments that ask for nothing it does, or what it does for them
+-- the program, whose output no contract names: arguments that ask for nothing it does, or what it does for them
 abbrev pub EndsProgram : (Result (List (String Global)) ArgsFault → Type 0) → (Result (Option (String Global)) ArgsFault → Type 0) → Fault → Type 0
-EndsProgram may_be may_name fault = ((why : ArgsFault) × IsRequest may_be may_name (Err why) × IsOfArgs why fault) ⊎ EndsRun fault
+EndsProgram may_be may_name fault = ((why : ArgsFault) × IsRequest may_be may_name (Err why) × IsOfArgs why fault) ⊎ EndsRun ⊤ fault

@@ -3,8 +3,6 @@ use Rattle.std.specs.Prelude.{◌≡◌, ◌⊎◌, ◌==◌, if◌then◌else�
 use Rattle.std.specs.declared.alloc.Global.{Global}
 use Rattle.std.specs.declared.string.String.{String}
 use Rattle.console_script.specs.declared.summary.Summary.{Summary}
-use Rattle.console_script.specs.declared.fault.HostFault.{HostFault}
-use Rattle.console_script.specs.declared.fault.HostFault.TheVariants as host
 use Rattle.thread_host_run.specs.declared.fault.RunHostFault.{RunHostFault}
 use Rattle.thread_host_run.specs.declared.fault.RunHostFault.TheVariants as served
 use Rattle.console_input.specs.declared.fault.ArgsFault.{ArgsFault}
@@ -21,13 +19,6 @@ use Rattle.thread_kept_frames.specs.declared.host_fault.HostInFileFault.TheVaria
 use Rattle.thread_live.specs.declared.fault.LineFault.{LineFault}
 use Rattle.thread_live.specs.declared.fault.LineFault.TheVariants as line
 use Rattle.bpfcon.specs.declared.fault.Fault.TheVariants.{Usage, Command, NoWord, NotOfBook, BadBook, Unread, BadFrames, NoMemory, NoThread, Spent, OfFile, OfFrames, CannotWrite}
-
--- the host's devices and limits are good ones
-abbrev pub fault_of_host : HostFault → Fault
-fault_of_host host.BadDevices = NoMemory
-fault_of_host host.BadLimits = NoMemory
-fault_of_host host.NoMemory = NoMemory
-fault_of_host host.Write = CannotWrite
 
 -- a host run did not come to its end; of a file that has no frames it is told why
 abbrev pub IsNoFrames : List ℕ → Fault → Type 0

@@ -1,11 +1,10 @@
 //! A line that is answered, and what went wrong in it, told.
 
-ghost use Rattle.std.specs.Prelude.{◌≡◌, ◌∷◌, ℕ, List, Option, None, Err, IfOk, IfErr};
+ghost use Rattle.std.specs.Prelude.{◌≡◌, ◌∷◌, ℕ, List, Option, None, IfOk, IfErr};
 ghost use Rattle.console_answer.specs.declared.mishap.Mishap.{Mishap};
 ghost use Rattle.bt_console.specs.Frames.{console_of};
 ghost use Rattle.console_script.specs.Running.{LeadsOn};
 ghost use Rattle.console_script.specs.Transcript.{session_of};
-ghost use Rattle.bpfcon.specs.declared.fault.Fault.TheVariants.{CannotWrite};
 ghost use Rattle.bpfcon.specs.Ends.{EndsLines};
 
 use crate::explain::explain;
@@ -37,8 +36,7 @@ pub fn answer<R: FileReader + Eprint + AllocGlobal, K: MapKind, S: Supply<K>, W:
     ensures done { IfOk result (λ _. (left : List (List ℕ)) → (mishap : Option Mishap) × LeadsOn S.gives K.seen files.now supply.old
         (session_of (console_of book.old.plain dialogue.old.runs) dialogue.old.summary (place.entry.line.now ∷ left) None) (W.contents out.old)
         supply.new (session_of (console_of book.new.plain dialogue.new.runs) dialogue.new.summary left None) (W.contents out.new) mishap) }
-    ensures refused { result ≡ Err CannotWrite → W.has_refused out.new }
-    ensures only { IfErr result EndsLines }
+    ensures only { IfErr result (EndsLines (W.has_refused out.new)) }
 {
     let before = dialogue.summary().accepted;
     let tally = match dialogue.run(rt.alloc(), book, supply, files, place.line, out) {

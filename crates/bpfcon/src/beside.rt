@@ -9,8 +9,8 @@ use console_input::FileReader;
 use console_operand::LineWord;
 use console_script::HostKind;
 use console_talk::Manner;
+use console_text::Output;
 use kept_host::{Asides, Hints, Wrong};
-use std::io::Write;
 use std::mem;
 use thread_asides::{RangeTurning, Turning, show_help, tell_dry, tell_held, tell_step};
 
@@ -61,7 +61,7 @@ impl<'a, R> Beside<'a, R> {
     }
 }
 
-impl<R: FileReader + Eprint + AllocGlobal, W: Write> Hints<HostKind, W> for Beside<'_, R> {
+impl<R: FileReader + Eprint + AllocGlobal, W: Output> Hints<HostKind, W> for Beside<'_, R> {
     fn tell(
         &mut self,
         book: &mut Book<HostKind>,
@@ -80,7 +80,7 @@ impl<R: FileReader + Eprint + AllocGlobal, W: Write> Hints<HostKind, W> for Besi
     }
 }
 
-impl<R: FileReader + Eprint + AllocGlobal, W: Write> Asides<HostKind, W> for Beside<'_, R> {
+impl<R: FileReader + Eprint + AllocGlobal, W: Output> Asides<HostKind, W> for Beside<'_, R> {
     fn help(&mut self, line: &[u8]) {
         show_help(self.rt, line, false);
     }

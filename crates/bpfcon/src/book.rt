@@ -11,7 +11,7 @@ ghost use Rattle.kept_host.specs.Asks.{only_ask};
 ghost use Rattle.kept_host.specs.Looks.{LooksInFile};
 ghost use Rattle.kept_host.specs.Runs.{RunsInFile};
 ghost use Rattle.bpfcon.specs.Book.{RunsOn, LooksAnew, StopsAnew, LooksOn, DidLine, TalkedOn, RanBook};
-ghost use Rattle.bpfcon.specs.Ends.{EndsBook, EndsLines, EndsServed};
+ghost use Rattle.bpfcon.specs.Ends.{EndsBook, EndsLines, EndsReading, EndsServed};
 ghost use Rattle.bpfcon.specs.declared.fault.Fault.TheVariants.{CannotWrite};
 
 use crate::beside::{Beside, Origin};
@@ -28,12 +28,13 @@ use console_input::{
 };
 use console_looks::{Look, look_of};
 use console_script::{MOMENTS, Summary, new_book};
+use console_text::Output;
 use kept_host::{
     Databases, InFileFault, TalkFault, Terms, host_terms, log_line, look_in_file, look_now,
     only_ask, range_of, run_in_file, talk_in_file,
 };
 use std::alloc::Global;
-use std::io::{BufReader, Read, Write};
+use std::io::{BufReader, Read};
 use std::mem::ManuallyDrop;
 use std::sync::Wait;
 use std::thread::Threads;
@@ -42,7 +43,7 @@ use std::time::Clock;
 // A text as a script, with the files that it names.
 fn with_named<R: FileReader + AllocGlobal>(rt: &R, text: Vec<u8>) -> Result<Script, Fault>
     ensures ran { IfOk result (λ script. (script.text.items ≡ text.items) × AreFilesOf (R.may_read rt.now) script.text.items script.files.items) }
-    ensures only { IfErr result EndsLines }
+    ensures only { IfErr result EndsReading }
 {
     let files = read_named(rt, text.as_slice())?;
     Ok(Script { text, files })
@@ -51,7 +52,7 @@ fn with_named<R: FileReader + AllocGlobal>(rt: &R, text: Vec<u8>) -> Result<Scri
 // The script from standard input.
 fn read_input<R: FileReader + Input + AllocGlobal>(rt: &R) -> Result<Script, Fault>
     ensures ran { IfOk result (λ script. AreFilesOf (R.may_read rt.now) script.text.items script.files.items) }
-    ensures only { IfErr result EndsLines }
+    ensures only { IfErr result EndsReading }
 {
     match read_all(rt.alloc(), rt.reader(), MOST_SCRIPT) {
         Ok(text) => with_named(rt, text),
@@ -66,7 +67,7 @@ fn is_of_none<R: Databases + AllocGlobal>(
     script: &Script,
 ) -> Result<bool, Fault>
     ensures ran { IfOk result (λ it. it ≡ true → only_ask (lines_of script.now.text.items) ≡ true) }
-    ensures only { IfErr result EndsLines }
+    ensures only { IfErr result EndsReading }
 {
     if rt.is_there(file) {
         return Ok(false);
@@ -78,7 +79,7 @@ fn is_of_none<R: Databases + AllocGlobal>(
 }
 
 // Runs a script of this name, which comes from there, on the book in the file of this path.
-fn run_at<R: FileReader + Eprint + Clock + Databases + AllocGlobal, W: Write>(
+fn run_at<R: FileReader + Eprint + Clock + Databases + AllocGlobal, W: Output>(
     rt: &R,
     path: &str,
     wait: u32,
@@ -96,7 +97,7 @@ fn run_at<R: FileReader + Eprint + Clock + Databases + AllocGlobal, W: Write>(
 
 // Runs a script of this name, which comes from there, on the book that a file keeps. If the file is not there and the script only
 // asks, it runs on a new host, and no file is made.
-fn run_script<R: FileReader + Eprint + Clock + Databases + AllocGlobal, W: Write>(
+fn run_script<R: FileReader + Eprint + Clock + Databases + AllocGlobal, W: Output>(
     rt: &R,
     file: String,
     wait: u32,
@@ -106,7 +107,7 @@ fn run_script<R: FileReader + Eprint + Clock + Databases + AllocGlobal, W: Write
     out: &mut W,
 ) -> Result<Summary, Fault>
     ensures ran { IfOk result (RunsOn (R.may_open rt.now (string_bytes file)) script.now.files.items script.now.text.items (W.contents out.old) (W.contents out.new)) }
-    ensures only { IfErr result EndsBook }
+    ensures only { IfErr result (EndsBook (W.has_refused out.new)) }
 {
     if is_of_none(rt, file.as_str(), script)? {
         return run_on_host(rt, name, script, out);
@@ -120,7 +121,7 @@ fn run_script<R: FileReader + Eprint + Clock + Databases + AllocGlobal, W: Write
 }
 
 // Does what a line asks that only looks into the journal, on the book in the file of this path.
-fn look_at<R: FileReader + Eprint + Clock + Databases + AllocGlobal, W: Write>(
+fn look_at<R: FileReader + Eprint + Clock + Databases + AllocGlobal, W: Output>(
     rt: &R,
     path: &str,
     wait: u32,
@@ -135,7 +136,7 @@ fn look_at<R: FileReader + Eprint + Clock + Databases + AllocGlobal, W: Write>(
 }
 
 // Does what a line asks that only looks into the journal, on a host in which nothing was done. The book is given up with the process.
-fn look_anew<R: FileReader + Eprint + AllocGlobal, W: Write>(
+fn look_anew<R: FileReader + Eprint + AllocGlobal, W: Output>(
     rt: &R,
     path: &str,
     look: &Look<'_>,
@@ -143,9 +144,12 @@ fn look_anew<R: FileReader + Eprint + AllocGlobal, W: Write>(
 ) -> Result<Summary, Fault>
     ensures ran { IfOk result (LooksAnew look.now (W.contents out.old) (W.contents out.new)) }
     ensures front { result ≡ Err CannotWrite → StopsAnew look.now (W.contents out.old) (W.contents out.new) }
-    ensures only { IfErr result EndsLines }
+    ensures only { IfErr result (EndsLines (W.has_refused out.new)) }
 {
-    let mut book = new_book(rt.alloc(), MOMENTS)?;
+    let mut book = match new_book(rt.alloc(), MOMENTS) {
+        Ok(book) => book,
+        Err(_) => return Err(Fault::NoMemory),
+    };
     let mut beside = Beside::new(rt, b"command", path, Origin::Line);
     let looked = look_now(&mut book, look, &mut beside, out);
     let _book = ManuallyDrop::new(book);
@@ -157,7 +161,7 @@ fn look_anew<R: FileReader + Eprint + AllocGlobal, W: Write>(
 
 // Does what a line asks that only looks into the journal, on the book that a file keeps. If the file is not there it looks at a new
 // host, and no file is made.
-fn look_on_book<R: FileReader + Eprint + Clock + Databases + AllocGlobal, W: Write>(
+fn look_on_book<R: FileReader + Eprint + Clock + Databases + AllocGlobal, W: Output>(
     rt: &R,
     file: String,
     wait: u32,
@@ -165,7 +169,7 @@ fn look_on_book<R: FileReader + Eprint + Clock + Databases + AllocGlobal, W: Wri
     out: &mut W,
 ) -> Result<Summary, Fault>
     ensures ran { IfOk result (LooksOn (R.may_open rt.now (string_bytes file)) look.now (W.contents out.old) (W.contents out.new)) }
-    ensures only { IfErr result EndsBook }
+    ensures only { IfErr result (EndsBook (W.has_refused out.new)) }
 {
     if !rt.is_there(file.as_str()) {
         return look_anew(rt, file.as_str(), look, out);
@@ -179,7 +183,7 @@ fn look_on_book<R: FileReader + Eprint + Clock + Databases + AllocGlobal, W: Wri
 
 // Does what a line asks on the book that a file keeps: tells the log, takes a range of changes out, looks into the journal, or runs it
 // as a command.
-fn line_on_book<R: FileReader + Eprint + Clock + Databases + AllocGlobal, W: Write>(
+fn line_on_book<R: FileReader + Eprint + Clock + Databases + AllocGlobal, W: Output>(
     rt: &R,
     file: String,
     wait: u32,
@@ -187,7 +191,7 @@ fn line_on_book<R: FileReader + Eprint + Clock + Databases + AllocGlobal, W: Wri
     out: &mut W,
 ) -> Result<Summary, Fault>
     ensures ran { IfOk result (λ summary. DidLine (R.may_open rt.now) (R.may_read rt.now) (W.contents out.old) (W.contents out.new) summary (string_bytes file) line.items (log_line_in (words line.items)) (range_in (words line.items)) (look_in (words line.items))) }
-    ensures only { IfErr result EndsBook }
+    ensures only { IfErr result (EndsBook (W.has_refused out.new)) }
 {
     match log_line(line.as_slice()) {
         Some(asked) => return log_on_book(rt, file, wait, line.as_slice(), asked, out),
@@ -208,10 +212,10 @@ fn line_on_book<R: FileReader + Eprint + Clock + Databases + AllocGlobal, W: Wri
 // Answers the lines of standard input one by one on the book that a file keeps.
 fn talk_on_book<
     R: FileReader + Terminal + Input + Eprint + Clock + Databases + AllocGlobal,
-    W: Write,
+    W: Output,
 >(rt: &R, file: String, wait: u32, out: &mut W) -> Result<Summary, Fault>
     ensures ran { IfOk result (λ summary. TalkedOn (R.may_open rt.now) (R.may_read rt.now) (W.contents out.old) (W.contents out.new) summary (string_bytes file)) }
-    ensures only { IfErr result EndsBook }
+    ensures only { IfErr result (EndsBook (W.has_refused out.new)) }
 {
     let alloc = rt.alloc();
     let mut input = match BufReader::new(alloc, rt.reader().take(MOST_SCRIPT + 1)) {
@@ -245,10 +249,10 @@ pub fn run_on_book<
         + Threads
         + Wait
         + Sync,
-    W: Write,
+    W: Output,
 >(rt: &R, order: BookOrder, out: &mut W) -> Result<Summary, Fault>
     ensures ran { IfOk result (λ summary. RanBook (R.may_open rt.now) (R.may_read rt.now) (W.contents out.old) (W.contents out.new) summary order) }
-    ensures only { IfErr result EndsServed }
+    ensures only { IfErr result (EndsServed (W.has_refused out.new)) }
 {
     let BookOrder { file, wait, lines } = order;
     match lines {

@@ -1,8 +1,7 @@
 //! What an operator is told on standard error of a line that was refused, or whose program was aborted, and of a whole run.
 
-ghost use Rattle.std.specs.Prelude.{◌≡◌, Err, IfErr};
+ghost use Rattle.std.specs.Prelude.{◌≡◌, IfErr};
 ghost use Rattle.std.specs.Io.KnownBytes.{Keeps};
-ghost use Rattle.bpfcon.specs.declared.fault.Fault.TheVariants.{CannotWrite};
 ghost use Rattle.bpfcon.specs.Ends.{EndsLines};
 
 use crate::fault::Fault;
@@ -31,8 +30,7 @@ pub fn explain<R: FileReader + Eprint + AllocGlobal, K: MapKind, W: Output>(
 ) -> Result<(), Fault>
     ensures same { book.new.plain ≡ book.old.plain }
     ensures written { Keeps (W.contents out.old) (W.contents out.new) }
-    ensures refused { result ≡ Err CannotWrite → W.has_refused out.new }
-    ensures only { IfErr result EndsLines }
+    ensures only { IfErr result (EndsLines (W.has_refused out.new)) }
 {
     match out.flush_all() {
         Ok(()) => {

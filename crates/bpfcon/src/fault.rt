@@ -1,12 +1,11 @@
 //! Why a script was not run to its end.
 
 ghost use Rattle.std.specs.Prelude.{◌≡◌};
-ghost use Rattle.bpfcon.specs.Faults.{fault_of_host, fault_of_line, IsOfServing, IsOfRead, IsOfArgs};
+ghost use Rattle.bpfcon.specs.Faults.{fault_of_line, IsOfServing, IsOfRead, IsOfArgs};
 ghost use Rattle.bpfcon.specs.declared.fault.Fault.TheVariants.{NoMemory};
 
 use console_hint::Shown;
 use console_input::{ArgsFault, Cause, ReadFault};
-use console_script::HostFault;
 use kept_host::{InFileFault, LogInFileFault};
 use std::alloc::{AllocError, Global};
 use std::fmt;
@@ -138,18 +137,6 @@ impl From<LineFault> for Fault {
         match fault {
             LineFault::Write => Fault::CannotWrite,
             LineFault::SeatSpent => Fault::Spent,
-        }
-    }
-}
-
-// The host's devices and limits are good ones.
-impl From<HostFault> for Fault {
-    ghost from_gives = { λ part fault. fault ≡ fault_of_host part };
-
-    fn from(fault: HostFault) -> Fault {
-        match fault {
-            HostFault::Write => Fault::CannotWrite,
-            HostFault::NoMemory | HostFault::BadDevices | HostFault::BadLimits => Fault::NoMemory,
         }
     }
 }

@@ -12,7 +12,7 @@ use bt_journal::Book;
 use bt_syntax::Script;
 use console_input::FileReader;
 use console_script::{HostKind, HostSupply, MOMENTS, Summary, new_book};
-use std::io::Write;
+use console_text::Output;
 use std::mem::ManuallyDrop;
 use std::sync::Wait;
 use std::thread::Threads;
@@ -21,7 +21,7 @@ use thread_host_run::{frames_of, refused_in, serve_frames};
 
 // Runs a script of this name on a host in which nothing was done, and then has two threads serve frames on it: the host that they
 // left, and how many lines were accepted and refused.
-fn serve_script<R: FileReader + Eprint + AllocGlobal + Threads + Wait + Sync, W: Write>(
+fn serve_script<R: FileReader + Eprint + AllocGlobal + Threads + Wait + Sync, W: Output>(
     rt: &R,
     file: &[u8],
     script: &Script,
@@ -29,14 +29,17 @@ fn serve_script<R: FileReader + Eprint + AllocGlobal + Threads + Wait + Sync, W:
     out: &mut W,
 ) -> Result<(Book<HostKind>, Summary), Fault>
     ensures ran { IfOk result (λ r. HasServed (W.contents out.old) (W.contents out.new) script.now.files.items script.now.text.items frames.now r.0.plain r.1) }
-    ensures only { IfErr result EndsFrames }
+    ensures only { IfErr result (EndsFrames (W.has_refused out.new)) }
 {
     let alloc = rt.alloc();
     let served = match frames_of(rt, alloc, frames) {
         Ok(served) => served,
         Err(fault) => return Err(Fault::of_serving(alloc, frames, fault)),
     };
-    let mut book = new_book(alloc, MOMENTS)?;
+    let mut book = match new_book(alloc, MOMENTS) {
+        Ok(book) => book,
+        Err(_) => return Err(Fault::NoMemory),
+    };
     let mut supply = HostSupply::new(alloc);
     let summary = match run_lines(rt, file, script, &mut book, &mut supply, out) {
         Ok(summary) => summary,
@@ -65,7 +68,7 @@ fn serve_script<R: FileReader + Eprint + AllocGlobal + Threads + Wait + Sync, W:
 /// # Errors
 /// `BadFrames` with the reason, and nothing was run; `NoMemory`, also after the script; `NoThread`, if no frame was served;
 /// and `CannotWrite`.
-pub fn serve_on_host<R: FileReader + Eprint + AllocGlobal + Threads + Wait + Sync, W: Write>(
+pub fn serve_on_host<R: FileReader + Eprint + AllocGlobal + Threads + Wait + Sync, W: Output>(
     rt: &R,
     file: &[u8],
     script: &Script,
@@ -73,7 +76,7 @@ pub fn serve_on_host<R: FileReader + Eprint + AllocGlobal + Threads + Wait + Syn
     out: &mut W,
 ) -> Result<Summary, Fault>
     ensures ran { IfOk result (λ summary. RunsNewHost (W.contents out.old) (W.contents out.new) device_names limits script.now.files.items script.now.text.items frames.now (Ok summary)) }
-    ensures only { IfErr result EndsFrames }
+    ensures only { IfErr result (EndsFrames (W.has_refused out.new)) }
 {
     let (book, summary) = serve_script(rt, file, script, frames, out)?;
     let _book = ManuallyDrop::new(book);
@@ -82,7 +85,7 @@ pub fn serve_on_host<R: FileReader + Eprint + AllocGlobal + Threads + Wait + Syn
 
 /// As [`serve_on_host`], and then runs another script, of the name `next`, on the host that the frames left. What it prints stands
 /// after what the frames do, and its counts are added.
-pub fn serve_then_run<R: FileReader + Eprint + AllocGlobal + Threads + Wait + Sync, W: Write>(
+pub fn serve_then_run<R: FileReader + Eprint + AllocGlobal + Threads + Wait + Sync, W: Output>(
     rt: &R,
     file: &[u8],
     script: &Script,
@@ -92,7 +95,7 @@ pub fn serve_then_run<R: FileReader + Eprint + AllocGlobal + Threads + Wait + Sy
     out: &mut W,
 ) -> Result<Summary, Fault>
     ensures ran { IfOk result (λ summary. HasServedThen (W.contents out.old) (W.contents out.new) script.now.files.items script.now.text.items frames.now behind.now.files.items behind.now.text.items summary) }
-    ensures only { IfErr result EndsFrames }
+    ensures only { IfErr result (EndsFrames (W.has_refused out.new)) }
 {
     let (book, summary) = serve_script(rt, file, script, frames, out)?;
     let mut book = book;

@@ -10,7 +10,8 @@ use crate::talk::answer_lines;
 use console_input::{FileReader, MOST_SCRIPT, Terminal};
 use console_script::{HostSupply, MOMENTS, Summary, new_book};
 use console_talk::Manner;
-use std::io::{BufReader, Read, Write};
+use console_text::Output;
+use std::io::{BufReader, Read};
 use std::mem::ManuallyDrop;
 
 /// Answers each line of an input when it is given, on a host in which nothing was done, with a new map for each that a line
@@ -18,7 +19,7 @@ use std::mem::ManuallyDrop;
 ///
 /// # Errors
 /// As [`answer_lines`], and `NoMemory` if there is none for the host. What was answered before stands on the output.
-pub fn talk<R: FileReader + Terminal + Eprint + AllocGlobal, I: Read + Drop, W: Write>(
+pub fn talk<R: FileReader + Terminal + Eprint + AllocGlobal, I: Read + Drop, W: Output>(
     rt: &R,
     manner: Manner,
     reader: I,
@@ -26,7 +27,7 @@ pub fn talk<R: FileReader + Terminal + Eprint + AllocGlobal, I: Read + Drop, W: 
 ) -> Result<Summary, Fault>
     ensures talked { IfOk result (λ summary. TalkedAnew (R.may_read rt.now) manner (front (I.remaining reader)) (W.contents out.old) (W.contents out.new) summary) }
     ensures whole { OnOk result (IsWhole manner (I.remaining reader)) }
-    ensures only { IfErr result EndsLines }
+    ensures only { IfErr result (EndsLines (W.has_refused out.new)) }
 {
     let alloc = rt.alloc();
     let mut input = match BufReader::new(alloc, reader.take(MOST_SCRIPT + 1)) {
@@ -35,7 +36,7 @@ pub fn talk<R: FileReader + Terminal + Eprint + AllocGlobal, I: Read + Drop, W: 
     };
     let mut book = match new_book(alloc, MOMENTS) {
         Ok(book) => book,
-        Err(fault) => return Err(Fault::from(fault)),
+        Err(_) => return Err(Fault::NoMemory),
     };
     let mut supply = HostSupply::new(alloc);
     manner.greet(rt);

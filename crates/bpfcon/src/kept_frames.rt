@@ -12,9 +12,9 @@ use crate::{read, read_script};
 use bt_syntax::Script;
 use console_input::{FileReader, MOST_FRAMES};
 use console_script::{MOMENTS, Summary};
+use console_text::Output;
 use kept_host::{Databases, InFileFault, Terms, host_terms};
 use std::alloc::Global;
-use std::io::Write;
 use std::sync::Wait;
 use std::thread::Threads;
 use std::time::Clock;
@@ -25,7 +25,7 @@ use thread_kept_frames::{HostInFileFault, HostRunFault, ServedHost, serve_in_fil
 // Runs a script of this name on the book in the file of this path, and serves frames on the host that it left.
 fn serve_at<
     R: FileReader + Eprint + Clock + Databases + AllocGlobal + Threads + Wait + Sync,
-    W: Write,
+    W: Output,
 >(
     rt: &R,
     path: &str,
@@ -45,7 +45,7 @@ fn serve_at<
 // Why script and frames did not come to their end on the book of a file.
 fn fault_in_file(alloc: Global, file: String, frames: &[u8], fault: HostInFileFault) -> Fault
     ensures is { IsOfKept file frames.now fault result }
-    ensures only { EndsServed result }
+    ensures only { EndsServed ⊥ result }
 {
     match fault {
         HostInFileFault::BadFrames => Fault::BadFrames(why_none(alloc, frames)),
@@ -72,10 +72,10 @@ fn fault_in_file(alloc: Global, file: String, frames: &[u8], fault: HostInFileFa
 /// kept, or how they ended was not told; and `CannotWrite`.
 pub fn serve_on_book<
     R: FileReader + Eprint + Clock + Databases + AllocGlobal + Threads + Wait + Sync,
-    W: Write,
+    W: Output,
 >(rt: &R, file: String, wait: u32, path: &str, frames: &str, out: &mut W) -> Result<Summary, Fault>
     ensures ran { IfOk result (λ summary. ServedOn (R.may_open rt.now) (R.may_read rt.now) (W.contents out.old) (W.contents out.new) summary (string_bytes file) path.now frames.now) }
-    ensures only { IfErr result EndsServed }
+    ensures only { IfErr result (EndsServed (W.has_refused out.new)) }
 {
     let script = read_script(rt, path)?;
     let bytes = read(rt, frames, MOST_FRAMES)?;

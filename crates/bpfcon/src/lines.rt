@@ -14,11 +14,11 @@ use bt_syntax::{Script, first_line};
 use console_hint::Place;
 use console_input::FileReader;
 use console_script::{Dialogue, Summary};
-use std::io::Write;
+use console_text::Output;
 
 /// Runs the lines of a script against a book, in order, writes the text of each answer, and tells on standard error what is
 /// wrong with each that is refused. `file` is what the script is called.
-pub fn run_lines<R: FileReader + Eprint + AllocGlobal, K: MapKind, S: Supply<K>, W: Write>(
+pub fn run_lines<R: FileReader + Eprint + AllocGlobal, K: MapKind, S: Supply<K>, W: Output>(
     rt: &R,
     file: &[u8],
     script: &Script,
@@ -28,7 +28,7 @@ pub fn run_lines<R: FileReader + Eprint + AllocGlobal, K: MapKind, S: Supply<K>,
 ) -> Result<Summary, Fault>
     ensures ran { IfOk result (λ summary. RanAll (W.contents out.old) (W.contents out.new) book.old.plain
         (λ run. AreSupplied S.gives K.seen supply.old run supply.new) script.now.files.items script.now.text.items book.new.plain summary) }
-    ensures only { IfErr result EndsLines }
+    ensures only { IfErr result (EndsLines (W.has_refused out.new)) }
 {
     let files = script.files.as_slice();
     let mut dialogue = Dialogue::new(rt.alloc());

@@ -5,7 +5,7 @@ ghost use Rattle.bt_console.specs.Frames.{no_runs};
 ghost use Rattle.thread_host_run.specs.FramesOf.{AreFramesAt};
 ghost use Rattle.console_input.specs.Named.{AreFilesOf};
 ghost use Rattle.bpfcon.specs.Live.{device_in, BeganLive, LivesOn, RanLive};
-ghost use Rattle.bpfcon.specs.Ends.{EndsFrames, EndsLines, EndsLive};
+ghost use Rattle.bpfcon.specs.Ends.{EndsFrames, EndsLive, EndsReading};
 
 use crate::fault::Fault;
 use crate::lines::run_lines;
@@ -18,9 +18,10 @@ use bt_syntax::Script;
 use console_input::{FileReader, Live, LiveOptions, MOST_SCRIPT, Terminal};
 use console_script::{HostKind, HostSupply, Summary, new_book};
 use console_talk::Manner;
+use console_text::Output;
 use host_words::Word;
 use std::alloc::Global;
-use std::io::{BufReader, Read, Write};
+use std::io::{BufReader, Read};
 use std::mem::ManuallyDrop;
 use std::sync::Wait;
 use std::thread::Threads;
@@ -40,7 +41,7 @@ struct Begun {
 // The device at which the frames of a capture come in.
 fn device_of(alloc: Global, options: &LiveOptions) -> Result<Word, Fault>
     ensures ran { IfOk result (λ device. device ≡ device_in options.now.device) }
-    ensures only { IfErr result EndsLines }
+    ensures only { IfErr result EndsReading }
 {
     let name = match &options.device {
         Some(name) => name.as_bytes(),
@@ -55,7 +56,7 @@ fn device_of(alloc: Global, options: &LiveOptions) -> Result<Word, Fault>
 // The frames in a file, and the workers that are to serve them.
 fn traffic_of(alloc: Global, options: &LiveOptions, bytes: &[u8]) -> Result<Traffic, Fault>
     ensures ran { IfOk result (λ traffic. AreFramesAt (device_in options.now.device) bytes.now traffic.frames.items) }
-    ensures only { IfErr result EndsFrames }
+    ensures only { IfErr result (EndsFrames ⊥) }
 {
     let device = device_of(alloc, options)?;
     let frames = match frames_in(alloc, &device, bytes) {
@@ -69,7 +70,7 @@ fn traffic_of(alloc: Global, options: &LiveOptions, bytes: &[u8]) -> Result<Traf
 }
 
 // Runs the script of a live host on a host in which nothing was done, and reads the frames for its workers before that.
-fn begin_live<R: FileReader + Eprint + AllocGlobal + Clock, W: Write>(
+fn begin_live<R: FileReader + Eprint + AllocGlobal + Clock, W: Output>(
     rt: &R,
     live: &Live,
     script: &Script,
@@ -79,13 +80,16 @@ fn begin_live<R: FileReader + Eprint + AllocGlobal + Clock, W: Write>(
     ensures began { IfOk result (λ begun. BeganLive (W.contents out.old) (W.contents out.new) live.now.options script.now.files.items script.now.text.items frames.now
         begun.book.plain begun.traffic begun.operator.summary) }
     ensures operator { IfOk result (λ begun. (begun.operator.session.runs ≡ no_runs) × (begun.operator.most_moments ≡ live.now.options.journal)) }
-    ensures only { IfErr result EndsFrames }
+    ensures only { IfErr result (EndsFrames (W.has_refused out.new)) }
 {
     let alloc = rt.alloc();
     let options = &live.options;
     let traffic = traffic_of(alloc, options, frames)?;
     let journal = u64::from(options.journal);
-    let mut book = new_book(alloc, journal)?;
+    let mut book = match new_book(alloc, journal) {
+        Ok(book) => book,
+        Err(_) => return Err(Fault::NoMemory),
+    };
     let mut supply = HostSupply::new(alloc);
     let file = live.setup.as_bytes();
     match run_lines(rt, file, script, &mut book, &mut supply, out) {
@@ -109,11 +113,11 @@ fn begin_live<R: FileReader + Eprint + AllocGlobal + Clock, W: Write>(
 // given up with the process.
 fn go_live<
     R: FileReader + Terminal + Input + Eprint + AllocGlobal + Threads + Wait + Clock + Sync,
-    W: Write + Drop,
+    W: Output + Drop,
 >(rt: &R, begun: Begun, out: W) -> (W, Result<Summary, Fault>)
     ensures ran { IfOk result.1 (λ summary. LivesOn ⟦<Shared<HostKind> as Sequential>⟧ ⟦<HostSupply as Supply<HostKind>>⟧.gives ⟦<HostKind as MapKind>⟧.seen (AreFilesOf (R.may_read rt.now))
         begun.traffic begun.operator.most_moments begun.book.plain begun.operator.session begun.operator.summary (W.contents out) (W.contents result.0) summary) }
-    ensures only { IfErr result.1 EndsLive }
+    ensures only { IfErr result.1 (EndsLive (W.has_refused result.0)) }
 {
     let alloc = rt.alloc();
     let mut out = out;
@@ -122,7 +126,7 @@ fn go_live<
         traffic,
         operator,
     } = begun;
-    match out.flush() {
+    match out.flush_all() {
         Ok(()) => {}
         Err(_) => return (out, Err(Fault::CannotWrite)),
     }
@@ -172,11 +176,11 @@ fn go_live<
 /// the script's transcript `NoMemory`, `NoThread`, `CannotWrite`, `Unread`, and `Spent`.
 pub fn serve_live<
     R: FileReader + Terminal + Input + Eprint + AllocGlobal + Threads + Wait + Clock + Sync,
-    W: Write + Drop,
+    W: Output + Drop,
 >(rt: &R, live: &Live, script: &Script, frames: &[u8], out: W) -> (W, Result<Summary, Fault>)
     ensures ran { IfOk result.1 (λ summary. RanLive ⟦<Shared<HostKind> as Sequential>⟧ ⟦<HostSupply as Supply<HostKind>>⟧.gives ⟦<HostKind as MapKind>⟧.seen (R.may_read rt.now)
         (W.contents out) (W.contents result.0) live.now.options script.now.files.items script.now.text.items frames.now summary) }
-    ensures only { IfErr result.1 EndsLive }
+    ensures only { IfErr result.1 (EndsLive (W.has_refused result.0)) }
 {
     let mut out = out;
     match begin_live(rt, live, script, frames, &mut out) {

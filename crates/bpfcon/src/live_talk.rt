@@ -8,7 +8,7 @@ ghost use Rattle.bt_syntax.specs.declared.files.FileText.{FileText};
 ghost use Rattle.console_input.specs.Named.{AreFilesOf};
 ghost use Rattle.thread_live.specs.Footings.{footing};
 ghost use Rattle.console_looks.specs.Answered.{looked_text};
-ghost use Rattle.bpfcon.specs.declared.fault.Fault.TheVariants.{CannotWrite, Spent};
+ghost use Rattle.bpfcon.specs.declared.fault.Fault.TheVariants.{Spent};
 ghost use Rattle.bpfcon.specs.LiveTalk.{ShowsAt, TellsLookAt, IsAnsweredLive, GoesLive, TalkedLive, TalkedToEnd};
 ghost use Rattle.console_talk.specs.Talk.{said};
 ghost use Rattle.bpfcon.specs.Ends.{EndsLines, EndsLive};
@@ -26,7 +26,7 @@ use console_script::{HostKind, HostSupply, Summary, Tally};
 use console_talk::{Manner, read_line};
 use console_text::Output;
 use host_words::NoMemory;
-use std::io::{BufRead, Write};
+use std::io::BufRead;
 use std::sync::Wait;
 use std::time::Clock;
 use thread_asides::{
@@ -75,8 +75,7 @@ fn told<K: MapKind, R: FileReader + Eprint + AllocGlobal + Wait, W: Output>(
     requires { IsSeatAt desk.now looker.old }
     ensures looker { IsSeatAt desk.now looker.new }
     ensures kept { Keeps (W.contents out.old) (W.contents out.new) }
-    ensures refused { result ≡ Err CannotWrite → W.has_refused out.new }
-    ensures only { IfErr result EndsLines }
+    ensures only { IfErr result (EndsLines (W.has_refused out.new)) }
 {
     match out.flush_all() {
         Ok(()) => {}
@@ -97,7 +96,7 @@ fn answer_now<
     K: MapKind,
     S: Supply<K>,
     R: FileReader + Eprint + AllocGlobal + Wait + Clock,
-    W: Write,
+    W: Output,
 >(
     rt: &R,
     desk: &Desk<K>,
@@ -114,7 +113,7 @@ fn answer_now<
     ensures most { operator.new.most_moments ≡ operator.old.most_moments }
     ensures answered { IfOk result (λ _. (files : List FileText) × IsAnsweredLive S.gives K.seen (AreFilesOf (R.may_read rt.now)) desk.now traffic.now operator.old.most_moments (said place.entry.line.now files)
         (footing operator.old.session seat.old (W.contents out.old)) operator.old.summary (footing operator.new.session seat.new (W.contents out.new)) operator.new.summary) }
-    ensures only { IfErr result EndsLive }
+    ensures only { IfErr result (EndsLive (W.has_refused out.new)) }
 {
     let alloc = rt.alloc();
     let files = read_named(rt, place.line)?;
@@ -145,8 +144,7 @@ fn told_after<R: Eprint + AllocGlobal, S>(
 // Writes what was looked at for a serial, and has it stand on the output when it returns.
 fn put_now<W: Output>(looked: &Result<Showing, NoMemory>, out: &mut W) -> Result<(), Fault>
     ensures text { OnOk result (Appends (W.contents out.old) (W.contents out.new) (looked_text looked.now)) }
-    ensures refused { result ≡ Err CannotWrite → W.has_refused out.new }
-    ensures only { IfErr result EndsLines }
+    ensures only { IfErr result (EndsLines (W.has_refused out.new)) }
 {
     match put_looked(out, looked) {
         Ok(()) => {}
@@ -169,9 +167,8 @@ fn show_now<K: MapKind, R: Wait, W: Output>(
     requires { IsSeatAt desk.now looker.old }
     ensures looker { IsSeatAt desk.now looker.new }
     ensures shown { OnOk result (ShowsAt desk.now serial looker.old looker.new (W.contents out.old) (W.contents out.new)) }
-    ensures refused { result ≡ Err CannotWrite → W.has_refused out.new }
     ensures spent { result ≡ Err Spent → calls_left looker.old ≡ 0 }
-    ensures only { IfErr result EndsLive }
+    ensures only { IfErr result (EndsLive (W.has_refused out.new)) }
 {
     match show_at(rt, desk, looker, serial) {
         Ok(looked) => put_now(&looked, out),
@@ -190,8 +187,7 @@ fn look_now<K: MapKind, R: Eprint + AllocGlobal + Wait, W: Output>(
     requires { IsSeatAt desk.now looker.old }
     ensures looker { IsSeatAt desk.now looker.new }
     ensures told { OnOk result (TellsLookAt desk.now look.now looker.old looker.new (W.contents out.old) (W.contents out.new)) }
-    ensures refused { result ≡ Err CannotWrite → W.has_refused out.new }
-    ensures only { IfErr result EndsLive }
+    ensures only { IfErr result (EndsLive (W.has_refused out.new)) }
 {
     match look {
         Look::Show(serial) => show_now(rt, desk, looker, *serial, out),
@@ -207,7 +203,7 @@ fn answer_told<
     K: MapKind,
     S: Supply<K>,
     R: FileReader + Eprint + AllocGlobal + Wait + Clock,
-    W: Write,
+    W: Output,
 >(
     rt: &R,
     desk: &Desk<K>,
@@ -224,7 +220,7 @@ fn answer_told<
     ensures most { operator.new.most_moments ≡ operator.old.most_moments }
     ensures answered { IfOk result (λ _. (files : List FileText) × IsAnsweredLive S.gives K.seen (AreFilesOf (R.may_read rt.now)) desk.now traffic.now operator.old.most_moments (said place.entry.line.now files)
         (footing operator.old.session seat.old (W.contents out.old)) operator.old.summary (footing operator.new.session seat.new (W.contents out.new)) operator.new.summary) }
-    ensures only { IfErr result EndsLive }
+    ensures only { IfErr result (EndsLive (W.has_refused out.new)) }
 {
     tell_held_at(rt, desk, looker, place.line);
     let turning = Turning::before_at(rt, desk, looker, place.line);
@@ -235,7 +231,7 @@ fn answer_told<
 }
 
 // Gives help on standard error if a line asks for it, looks at the journal if it asks for that, and else answers the line.
-fn hear<K: MapKind, S: Supply<K>, R: FileReader + Eprint + AllocGlobal + Wait + Clock, W: Write>(
+fn hear<K: MapKind, S: Supply<K>, R: FileReader + Eprint + AllocGlobal + Wait + Clock, W: Output>(
     rt: &R,
     desk: &Desk<K>,
     seat: &mut Seat<K>,
@@ -251,7 +247,7 @@ fn hear<K: MapKind, S: Supply<K>, R: FileReader + Eprint + AllocGlobal + Wait + 
     ensures most { operator.new.most_moments ≡ operator.old.most_moments }
     ensures goes { IfOk result (λ _. (files : List FileText) × GoesLive S.gives K.seen (AreFilesOf (R.may_read rt.now)) desk.now traffic.now operator.old.most_moments (said place.entry.line.now files)
         (footing operator.old.session seat.old (W.contents out.old)) operator.old.summary (footing operator.new.session seat.new (W.contents out.new)) operator.new.summary) }
-    ensures only { IfErr result EndsLive }
+    ensures only { IfErr result (EndsLive (W.has_refused out.new)) }
 {
     if Manner::Dialogue.is_asked_by(place.line) {
         show_help(rt, place.line, true);
@@ -269,7 +265,7 @@ fn answer_lines<
     S: Supply<K>,
     R: FileReader + Eprint + AllocGlobal + Wait + Clock,
     I: BufRead,
-    W: Write,
+    W: Output,
 >(
     rt: &R,
     desk: &Desk<K>,
@@ -285,7 +281,7 @@ fn answer_lines<
     ensures most { OnOk result (operator.new.most_moments ≡ operator.old.most_moments) }
     ensures talked { IfOk result (λ _. TalkedLive S.gives K.seen (AreFilesOf (R.may_read rt.now)) desk.now traffic.now operator.old.most_moments (I.remaining input.old)
         (footing operator.old.session seat.old (W.contents out.old)) operator.old.summary (footing operator.new.session seat.new (W.contents out.new)) operator.new.summary) }
-    ensures only { IfErr result EndsLive }
+    ensures only { IfErr result (EndsLive (W.has_refused out.new)) }
 {
     let mut given = Vec::new(rt.alloc());
     let mut left = MOST_SCRIPT;
@@ -323,7 +319,7 @@ fn talk_to_end<
     S: Supply<K>,
     R: FileReader + Eprint + AllocGlobal + Wait + Clock,
     I: BufRead,
-    W: Write,
+    W: Output,
 >(
     rt: &R,
     desk: &Desk<K>,
@@ -337,7 +333,7 @@ fn talk_to_end<
     ensures seat { IsSeatAt desk.now seat.new }
     ensures talked { IfOk result (λ summary. TalkedToEnd S.gives K.seen (AreFilesOf (R.may_read rt.now)) desk.now traffic.now operator.old.most_moments (I.remaining input.old)
         (footing operator.old.session seat.old (W.contents out.old)) operator.old.summary seat.new (W.contents out.new) summary) }
-    ensures only { IfErr result EndsLive }
+    ensures only { IfErr result (EndsLive (W.has_refused out.new)) }
 {
     let mut looker = desk.split(seat);
     answer_lines(rt, desk, seat, &mut looker, traffic, operator, input, out)?;
@@ -348,12 +344,12 @@ fn talk_to_end<
 impl<
     R: FileReader + Eprint + AllocGlobal + Wait + Clock,
     I: BufRead + Drop,
-    W: Write + Drop,
+    W: Output + Drop,
 > Console<HostKind, R> for Talk<I, W> {
     type Told = Left<W>;
 
     ghost talks = { λ g talk rt desk traffic old left new. IfOk left.ran (λ summary. TalkedToEnd ⟦<HostSupply as Supply<HostKind>>⟧.gives ⟦<HostKind as MapKind>⟧.seen (AreFilesOf (R.may_read rt)) desk traffic
-        talk.operator.value.most_moments (I.remaining talk.input) (footing talk.operator.value.session old (W.contents talk.out)) talk.operator.value.summary new (W.contents left.out) summary) × IfErr left.ran EndsLive };
+        talk.operator.value.most_moments (I.remaining talk.input) (footing talk.operator.value.session old (W.contents talk.out)) talk.operator.value.summary new (W.contents left.out) summary) × IfErr left.ran (EndsLive (W.has_refused left.out)) };
 
     fn talk(
         self,

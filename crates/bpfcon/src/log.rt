@@ -21,7 +21,7 @@ fn tell<R: Clock + Databases + AllocGlobal, W: Output>(
     out: &mut W,
 ) -> Result<Summary, Fault>
     ensures ran { IfOk result (TellsLogOf (R.may_open rt.now (string_bytes file)) most (W.contents out.old) (W.contents out.new)) }
-    ensures only { IfErr result EndsBook }
+    ensures only { IfErr result (EndsBook (W.has_refused out.new)) }
 {
     if !rt.is_there(file.as_str()) {
         return Ok(Summary {
@@ -51,7 +51,7 @@ pub fn log_on_book<R: Eprint + Clock + Databases + AllocGlobal, W: Output>(
     out: &mut W,
 ) -> Result<Summary, Fault>
     ensures ran { IfOk result (LogsOn (R.may_open rt.now (string_bytes file)) asked (W.contents out.old) (W.contents out.new)) }
-    ensures only { IfErr result EndsBook }
+    ensures only { IfErr result (EndsBook (W.has_refused out.new)) }
 {
     match asked {
         LogLine::Asks(most) => tell(rt, file, wait, most, out),

@@ -17,7 +17,7 @@ ghost use Rattle.bpfcon.specs.Carried.{IsScriptOf, AreOfLive, RanFile, Served, S
 ghost use Rattle.bpfcon.specs.Book.{Did, DidAsked};
 ghost use Rattle.bpfcon.specs.Faults.{status_of};
 ghost use Rattle.bpfcon.specs.declared.fault.Fault.TheVariants.{CannotWrite};
-ghost use Rattle.bpfcon.specs.Ends.{EndsFrames, EndsLines, EndsLive, EndsProgram, EndsRun};
+ghost use Rattle.bpfcon.specs.Ends.{EndsFrames, EndsLines, EndsLive, EndsProgram, EndsReading, EndsRun};
 
 mod answered;
 mod beside;
@@ -69,7 +69,7 @@ use thread_lock::Sequential;
 fn read<R: FileReader + AllocGlobal>(rt: &R, path: &str, most: u64) -> Result<Vec<u8>, Fault>
     requires { most < 2 ^ 64 - 1 }
     ensures ran { IfOk result (λ bytes. R.may_read rt.now path.now most (Ok bytes.items)) }
-    ensures only { IfErr result EndsLines }
+    ensures only { IfErr result EndsReading }
 {
     match rt.read_whole(path, most) {
         Ok(bytes) => Ok(bytes),
@@ -80,7 +80,7 @@ fn read<R: FileReader + AllocGlobal>(rt: &R, path: &str, most: u64) -> Result<Ve
 // The script in a file, with the files that it names.
 fn read_script<R: FileReader + AllocGlobal>(rt: &R, path: &str) -> Result<Script, Fault>
     ensures ran { IfOk result (λ script. IsScriptOf (R.may_read rt.now) path.now script.text.items script.files.items) }
-    ensures only { IfErr result EndsLines }
+    ensures only { IfErr result EndsReading }
 {
     let text = read(rt, path, MOST_SCRIPT)?;
     let files = read_named(rt, text.as_slice())?;
@@ -90,8 +90,7 @@ fn read_script<R: FileReader + AllocGlobal>(rt: &R, path: &str) -> Result<Script
 // Writes a text; no line was refused.
 fn say<W: Output>(out: &mut W, text: &str) -> Result<Summary, Fault>
     ensures said { IfOk result (λ summary. Appends (W.contents out.old) (W.contents out.new) text.now × (summary ≡ no_counts)) }
-    ensures refused { result ≡ Err CannotWrite → W.has_refused out.new }
-    ensures only { IfErr result EndsLines }
+    ensures only { IfErr result (EndsLines (W.has_refused out.new)) }
 {
     match put(out, text.as_bytes()) {
         Ok(()) => Ok(Summary {
@@ -103,14 +102,14 @@ fn say<W: Output>(out: &mut W, text: &str) -> Result<Summary, Fault>
 }
 
 // Runs the script in a file, and serves the frames of another.
-fn serve<R: FileReader + Eprint + AllocGlobal + Threads + Wait + Sync, W: Write>(
+fn serve<R: FileReader + Eprint + AllocGlobal + Threads + Wait + Sync, W: Output>(
     rt: &R,
     path: &str,
     frames: &str,
     out: &mut W,
 ) -> Result<Summary, Fault>
     ensures ran { IfOk result (λ summary. Served (R.may_read rt.now) (W.contents out.old) (W.contents out.new) summary path.now frames.now) }
-    ensures only { IfErr result EndsFrames }
+    ensures only { IfErr result (EndsFrames (W.has_refused out.new)) }
 {
     let script = read_script(rt, path)?;
     let text = read(rt, frames, MOST_FRAMES)?;
@@ -118,7 +117,7 @@ fn serve<R: FileReader + Eprint + AllocGlobal + Threads + Wait + Sync, W: Write>
 }
 
 // Runs the script in a file, serves the frames of another, and runs the script in a third after them.
-fn serve_then<R: FileReader + Eprint + AllocGlobal + Threads + Wait + Sync, W: Write>(
+fn serve_then<R: FileReader + Eprint + AllocGlobal + Threads + Wait + Sync, W: Output>(
     rt: &R,
     path: &str,
     frames: &str,
@@ -126,7 +125,7 @@ fn serve_then<R: FileReader + Eprint + AllocGlobal + Threads + Wait + Sync, W: W
     out: &mut W,
 ) -> Result<Summary, Fault>
     ensures ran { IfOk result (λ summary. ServedThen (R.may_read rt.now) (W.contents out.old) (W.contents out.new) summary path.now frames.now after.now) }
-    ensures only { IfErr result EndsFrames }
+    ensures only { IfErr result (EndsFrames (W.has_refused out.new)) }
 {
     let script = read_script(rt, path)?;
     let text = read(rt, frames, MOST_FRAMES)?;
@@ -138,7 +137,7 @@ fn serve_then<R: FileReader + Eprint + AllocGlobal + Threads + Wait + Sync, W: W
 // What a live host is made of: the script of its setup, and the bytes of its frames.
 fn read_live<R: FileReader + AllocGlobal>(rt: &R, live: &Live) -> Result<(Script, Vec<u8>), Fault>
     ensures ran { IfOk result (λ it. AreOfLive (R.may_read rt.now) live.now it.0.text.items it.0.files.items it.1.items) }
-    ensures only { IfErr result EndsLines }
+    ensures only { IfErr result EndsReading }
 {
     let script = read_script(rt, live.setup.as_str())?;
     let frames = read(rt, live.frames.as_str(), MOST_FRAMES)?;
@@ -148,11 +147,11 @@ fn read_live<R: FileReader + AllocGlobal>(rt: &R, live: &Live) -> Result<(Script
 // Runs the script of a live host, and answers the lines of standard input while its workers serve the frames of a file.
 fn go_live<
     R: FileReader + Terminal + Input + Eprint + AllocGlobal + Threads + Wait + Clock + Sync,
-    W: Write + Drop,
+    W: Output + Drop,
 >(rt: &R, live: &Live, out: W) -> (W, Result<Summary, Fault>)
     ensures ran { IfOk result.1 (λ summary. CarriedLive ⟦<Shared<HostKind> as Sequential>⟧ ⟦<HostSupply as Supply<HostKind>>⟧.gives ⟦<HostKind as MapKind>⟧.seen (R.may_read rt.now)
         (W.contents out) (W.contents result.0) summary live.now) }
-    ensures only { IfErr result.1 EndsLive }
+    ensures only { IfErr result.1 (EndsLive (W.has_refused result.0)) }
 {
     match read_live(rt, live) {
         Ok((script, frames)) => serve_live(rt, live, &script, &frames, out),
@@ -161,13 +160,13 @@ fn go_live<
 }
 
 // Runs the script in a file.
-fn run_file<R: FileReader + Eprint + AllocGlobal, W: Write>(
+fn run_file<R: FileReader + Eprint + AllocGlobal, W: Output>(
     rt: &R,
     path: &str,
     out: &mut W,
 ) -> Result<Summary, Fault>
     ensures ran { IfOk result (λ summary. RanFile (R.may_read rt.now) (W.contents out.old) (W.contents out.new) summary path.now) }
-    ensures only { IfErr result EndsLines }
+    ensures only { IfErr result (EndsLines (W.has_refused out.new)) }
 {
     let script = read_script(rt, path)?;
     run_on_host(rt, path.as_bytes(), &script, out)
@@ -176,11 +175,11 @@ fn run_file<R: FileReader + Eprint + AllocGlobal, W: Write>(
 // Does what was asked, and writes what is to be written. The output comes back with what came of it.
 fn carry_out<
     R: FileReader + Terminal + Input + Eprint + AllocGlobal + Threads + Wait + Clock + Sync,
-    W: Write + Drop,
+    W: Output + Drop,
 >(rt: &R, order: Order, out: W) -> (W, Result<Summary, Fault>)
     ensures ran { IfOk result.1 (λ summary. Carried ⟦<Shared<HostKind> as Sequential>⟧ ⟦<HostSupply as Supply<HostKind>>⟧.gives ⟦<HostKind as MapKind>⟧.seen (R.may_read rt.now)
         (W.contents out) (W.contents result.0) summary order) }
-    ensures only { IfErr result.1 EndsLive }
+    ensures only { IfErr result.1 (EndsLive (W.has_refused result.0)) }
 {
     let mut out = out;
     match order {
@@ -234,11 +233,11 @@ fn answer_request<
         + Clock
         + Databases
         + Sync,
-    W: Write + Drop,
+    W: Output + Drop,
 >(rt: &R, request: Request, out: W) -> (W, Result<Summary, Fault>)
     ensures ran { IfOk result.1 (λ summary. Did ⟦<Shared<HostKind> as Sequential>⟧ ⟦<HostSupply as Supply<HostKind>>⟧.gives ⟦<HostKind as MapKind>⟧.seen (R.may_open rt.now) (R.may_read rt.now)
         (W.contents out) (W.contents result.0) summary request) }
-    ensures only { IfErr result.1 EndsRun }
+    ensures only { IfErr result.1 (EndsRun (W.has_refused result.0)) }
 {
     match request {
         Request::Plain(order) => carry_out(rt, order, out),

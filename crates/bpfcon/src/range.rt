@@ -12,13 +12,13 @@ use console_answer::Fault as LineFault;
 use console_hint::advice;
 use console_input::FileReader;
 use console_script::Summary;
+use console_text::Output;
 use kept_host::{Databases, InFileFault, SerialRange, Terms, host_terms};
 use kept_range::{Taken, take_in_file};
-use std::io::Write;
 use std::time::Clock;
 
 // Takes the range that a line spells out of the book in the file of this path.
-fn take_at<R: FileReader + Eprint + Clock + Databases + AllocGlobal, W: Write>(
+fn take_at<R: FileReader + Eprint + Clock + Databases + AllocGlobal, W: Output>(
     rt: &R,
     path: &str,
     wait: u32,
@@ -39,7 +39,7 @@ fn take_at<R: FileReader + Eprint + Clock + Databases + AllocGlobal, W: Write>(
 /// # Errors
 /// `OfFile` if the file is not opened, or if what is taken out is not kept or not answered; `CannotWrite` if it is not written that no
 /// change is in force where there is no file; `NoMemory` before the file is opened.
-pub fn take_on_book<R: FileReader + Eprint + Clock + Databases + AllocGlobal, W: Write>(
+pub fn take_on_book<R: FileReader + Eprint + Clock + Databases + AllocGlobal, W: Output>(
     rt: &R,
     file: String,
     wait: u32,
@@ -48,7 +48,7 @@ pub fn take_on_book<R: FileReader + Eprint + Clock + Databases + AllocGlobal, W:
     out: &mut W,
 ) -> Result<Summary, Fault>
     ensures ran { IfOk result (TakesOn (R.may_open rt.now (string_bytes file)) range (W.contents out.old) (W.contents out.new)) }
-    ensures only { IfErr result EndsBook }
+    ensures only { IfErr result (EndsBook (W.has_refused out.new)) }
 {
     if !rt.is_there(file.as_str()) {
         let fault = LineFault::NotInForce;

@@ -1,9 +1,8 @@
 //! A line for the book in a file that is refused before the file is opened.
 
-ghost use Rattle.std.specs.Prelude.{◌≡◌, Err, IfOk, IfErr};
+ghost use Rattle.std.specs.Prelude.{◌≡◌, IfOk, IfErr};
 ghost use Rattle.bpfcon.specs.Book.{Refuses};
 ghost use Rattle.bpfcon.specs.Ends.{EndsLines};
-ghost use Rattle.bpfcon.specs.declared.fault.Fault.TheVariants.{CannotWrite};
 
 use crate::fault::Fault;
 use console_answer::{Fault as LineFault, Mishap};
@@ -24,8 +23,7 @@ pub(crate) fn refuse<R: Eprint, W: Output>(
     out: &mut W,
 ) -> Result<Summary, Fault>
     ensures refuses { IfOk result (Refuses fault (W.contents out.old) (W.contents out.new)) }
-    ensures refused { result ≡ Err CannotWrite → W.has_refused out.new }
-    ensures only { IfErr result EndsLines }
+    ensures only { IfErr result (EndsLines (W.has_refused out.new)) }
 {
     match put_fault(out, fault) {
         Ok(()) => {}

@@ -1,13 +1,12 @@
 //! Lines of an input, each answered when it is given.
 
-ghost use Rattle.std.specs.Prelude.{◌≡◌, List, Err, IfOk, IfErr, OnOk};
+ghost use Rattle.std.specs.Prelude.{◌≡◌, List, IfOk, IfErr, OnOk};
 ghost use Rattle.bt_syntax.specs.declared.files.FileText.{FileText};
 ghost use Rattle.bt_console.specs.Frames.{console_of};
 ghost use Rattle.console_input.specs.Named.{AreFilesOf};
 ghost use Rattle.console_script.specs.Supplied.{AreSupplied};
 ghost use Rattle.console_looks.specs.Answered.{ShowsSerial};
 ghost use Rattle.console_talk.specs.Talk.{standing, said, TellsLook, IsAnswered, Goes, Talked};
-ghost use Rattle.bpfcon.specs.declared.fault.Fault.TheVariants.{CannotWrite};
 ghost use Rattle.bpfcon.specs.Ends.{EndsLines};
 
 use crate::answered::answer;
@@ -22,7 +21,7 @@ use console_looks::{Look, answer_show};
 use console_script::{Dialogue, Summary};
 use console_talk::{Manner, read_line};
 use console_text::Output;
-use std::io::{BufRead, Write};
+use std::io::BufRead;
 use thread_asides::{Turning, show_help, tell_dry, tell_held, tell_step};
 
 /// What standard input is called if it was not read.
@@ -77,8 +76,7 @@ fn answer_now<R: FileReader + Eprint + AllocGlobal, K: MapKind, S: Supply<K>, W:
 ) -> Result<(), Fault>
     ensures answered { IfOk result (λ _. (files : List FileText) × IsAnswered (AreSupplied S.gives K.seen) (AreFilesOf (R.may_read rt.now)) (said place.entry.line.now files) supply.old
         (standing (console_of book.old.plain dialogue.old.runs) dialogue.old.summary) (W.contents out.old) supply.new (standing (console_of book.new.plain dialogue.new.runs) dialogue.new.summary) (W.contents out.new)) }
-    ensures refused { result ≡ Err CannotWrite → W.has_refused out.new }
-    ensures only { IfErr result EndsLines }
+    ensures only { IfErr result (EndsLines (W.has_refused out.new)) }
 {
     let files = read_named(rt, place.line)?;
     answer(rt, book, dialogue, supply, files.as_slice(), place, out)?;
@@ -89,7 +87,7 @@ fn answer_now<R: FileReader + Eprint + AllocGlobal, K: MapKind, S: Supply<K>, W:
 }
 
 // Answers a line, and tells what there is to tell beside its answer.
-fn answer_told<R: FileReader + Eprint + AllocGlobal, K: MapKind, S: Supply<K>, W: Write>(
+fn answer_told<R: FileReader + Eprint + AllocGlobal, K: MapKind, S: Supply<K>, W: Output>(
     rt: &R,
     manner: Manner,
     book: &mut Book<K>,
@@ -100,7 +98,7 @@ fn answer_told<R: FileReader + Eprint + AllocGlobal, K: MapKind, S: Supply<K>, W
 ) -> Result<(), Fault>
     ensures ran { IfOk result (λ _. (files : List FileText) × IsAnswered (AreSupplied S.gives K.seen) (AreFilesOf (R.may_read rt.now)) (said place.entry.line.now files) supply.old
         (standing (console_of book.old.plain dialogue.old.runs) dialogue.old.summary) (W.contents out.old) supply.new (standing (console_of book.new.plain dialogue.new.runs) dialogue.new.summary) (W.contents out.new)) }
-    ensures only { IfErr result EndsLines }
+    ensures only { IfErr result (EndsLines (W.has_refused out.new)) }
 {
     let turning = look_before(rt, manner, book, place.line);
     let before = dialogue.summary().accepted;
@@ -117,8 +115,7 @@ fn show_now<K: MapKind, W: Output>(
 ) -> Result<(), Fault>
     ensures shown { OnOk result (ShowsSerial serial book.old.plain (W.contents out.old) (W.contents out.new)) }
     ensures same { book.new.plain ≡ book.old.plain }
-    ensures refused { result ≡ Err CannotWrite → W.has_refused out.new }
-    ensures only { IfErr result EndsLines }
+    ensures only { IfErr result (EndsLines (W.has_refused out.new)) }
 {
     match answer_show(book, serial, out) {
         Ok(_looked) => Ok(()),
@@ -135,8 +132,7 @@ fn look_now<R: Eprint + AllocGlobal, K: MapKind, W: Output>(
 ) -> Result<(), Fault>
     ensures told { OnOk result (TellsLook look.now book.old.plain (W.contents out.old) (W.contents out.new)) }
     ensures same { book.new.plain ≡ book.old.plain }
-    ensures refused { result ≡ Err CannotWrite → W.has_refused out.new }
-    ensures only { IfErr result EndsLines }
+    ensures only { IfErr result (EndsLines (W.has_refused out.new)) }
 {
     match look {
         Look::Show(serial) => show_now(book, *serial, out),
@@ -148,7 +144,7 @@ fn look_now<R: Eprint + AllocGlobal, K: MapKind, W: Output>(
 }
 
 // Gives help on standard error if a line asks for it, looks into the journal if it asks for that, and else answers the line.
-fn hear<R: FileReader + Eprint + AllocGlobal, K: MapKind, S: Supply<K>, W: Write>(
+fn hear<R: FileReader + Eprint + AllocGlobal, K: MapKind, S: Supply<K>, W: Output>(
     rt: &R,
     manner: Manner,
     book: &mut Book<K>,
@@ -159,7 +155,7 @@ fn hear<R: FileReader + Eprint + AllocGlobal, K: MapKind, S: Supply<K>, W: Write
 ) -> Result<(), Fault>
     ensures ran { IfOk result (λ _. (files : List FileText) × Goes (AreSupplied S.gives K.seen) (AreFilesOf (R.may_read rt.now)) manner (said place.entry.line.now files) supply.old
         (standing (console_of book.old.plain dialogue.old.runs) dialogue.old.summary) (W.contents out.old) supply.new (standing (console_of book.new.plain dialogue.new.runs) dialogue.new.summary) (W.contents out.new)) }
-    ensures only { IfErr result EndsLines }
+    ensures only { IfErr result (EndsLines (W.has_refused out.new)) }
 {
     if manner.is_asked_by(place.line) {
         show_help(rt, place.line, false);
@@ -183,7 +179,7 @@ pub fn answer_lines<
     K: MapKind,
     S: Supply<K>,
     I: BufRead,
-    W: Write,
+    W: Output,
 >(
     rt: &R,
     manner: Manner,
@@ -194,7 +190,7 @@ pub fn answer_lines<
 ) -> Result<Summary, Fault>
     ensures ran { IfOk result (λ summary. Talked (AreSupplied S.gives K.seen) (AreFilesOf (R.may_read rt.now)) manner (I.remaining input.old) book.old.plain supply.old (W.contents out.old)
         book.new.plain supply.new (W.contents out.new) summary) }
-    ensures only { IfErr result EndsLines }
+    ensures only { IfErr result (EndsLines (W.has_refused out.new)) }
 {
     let mut dialogue = Dialogue::new(rt.alloc());
     let mut given = Vec::new(rt.alloc());

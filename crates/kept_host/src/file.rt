@@ -16,7 +16,7 @@ use console_script::{HostKind, Summary};
 use console_text::Output;
 use kept_file::Terms;
 use kept_lines::{Asides, Databases, InFileFault, milliseconds, open_waiting};
-use std::io::{BufRead, Write};
+use std::io::BufRead;
 use std::time::Clock;
 
 /// Runs the lines of a script on the book that the file of this path keeps, as [`run_kept`] does on a connection to it. A file
@@ -53,7 +53,7 @@ pub fn run_in_file<R: Databases + Clock + AllocGlobal, A: Asides<HostKind, W>, W
 ///
 /// # Errors
 /// Unopened if the file is not opened, and then nothing was looked at, and those of [`look_kept`].
-pub fn look_in_file<R: Databases + Clock + AllocGlobal, A: Asides<HostKind, W>, W: Write>(
+pub fn look_in_file<R: Databases + Clock + AllocGlobal, A: Asides<HostKind, W>, W: Output>(
     rt: &R,
     path: &str,
     seconds: u32,
@@ -85,7 +85,7 @@ pub fn talk_in_file<
     R: Databases + FileReader + Terminal + Eprint + Clock + AllocGlobal,
     A: Asides<HostKind, W>,
     I: BufRead,
-    W: Write,
+    W: Output,
 >(
     rt: &R,
     path: &str,

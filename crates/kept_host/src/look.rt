@@ -10,11 +10,11 @@ use bt_mapkind::MapKind;
 use bt_syntax::NoMemory;
 use console_looks::{Look, Showing, answer_show};
 use console_script::{HostKind, Summary};
+use console_text::Output;
 use kept_file::Terms;
 use kept_lines::{Asides, KeptFault, LinesFault, begin};
 use sqlite::{Alter, Connection};
 use std::alloc::Global;
-use std::io::Write;
 use std::mem::ManuallyDrop;
 
 // How a line that asked for a serial counts.
@@ -34,13 +34,14 @@ fn counts_of(looked: &Result<Showing, NoMemory>) -> Summary
 }
 
 // Shows the change of a serial in a book.
-fn show_now<K: MapKind, W: Write>(
+fn show_now<K: MapKind, W: Output>(
     book: &mut Book<K>,
     serial: u64,
     out: &mut W,
 ) -> Result<Summary, LinesFault>
     ensures shown { IfOk result (ShowsCounted serial book.old.plain (W.contents out.old) (W.contents out.new)) }
     ensures front { OnErr result (ShowsFront serial book.old.plain (W.contents out.old) (W.contents out.new)) }
+    ensures refused { OnErr result (W.has_refused out.new) }
     ensures same { book.new.plain ≡ book.old.plain }
 {
     match answer_show(book, serial, out) {
@@ -55,7 +56,7 @@ fn show_now<K: MapKind, W: Write>(
 ///
 /// # Errors
 /// Write if a write fails; a front of what there is to show was written.
-pub fn look_now<K: MapKind, A: Asides<K, W>, W: Write>(
+pub fn look_now<K: MapKind, A: Asides<K, W>, W: Output>(
     book: &mut Book<K>,
     look: &Look<'_>,
     asides: &mut A,
@@ -63,6 +64,7 @@ pub fn look_now<K: MapKind, A: Asides<K, W>, W: Write>(
 ) -> Result<Summary, LinesFault>
     ensures looked { IfOk result (LooksAt look.now book.old.plain (W.contents out.old) (W.contents out.new)) }
     ensures front { OnErr result (LooksFront look.now book.old.plain (W.contents out.old) (W.contents out.new)) }
+    ensures refused { OnErr result (W.has_refused out.new) }
     ensures same { book.new.plain ≡ book.old.plain }
 {
     match look {
@@ -82,7 +84,7 @@ pub fn look_now<K: MapKind, A: Asides<K, W>, W: Write>(
 ///
 /// # Errors
 /// Those of [`begin`], after which nothing was looked at, and Lines with that of [`look_now`].
-pub fn look_kept<D: Alter, A: Asides<HostKind, W>, W: Write>(
+pub fn look_kept<D: Alter, A: Asides<HostKind, W>, W: Output>(
     alloc: Global,
     conn: &mut Connection<D>,
     terms: Terms,

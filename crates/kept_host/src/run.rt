@@ -18,7 +18,7 @@ use kept_file::Terms;
 use kept_lines::{Asides, InFileFault, KeptFault, begin, keep_lines};
 use sqlite::{Alter, Connection};
 use std::alloc::Global;
-use std::io::{BufRead, Write};
+use std::io::BufRead;
 use std::mem::ManuallyDrop;
 use std::time::Clock;
 
@@ -105,7 +105,7 @@ pub fn talk_kept<
     R: FileReader + Terminal + Eprint + Clock + AllocGlobal,
     A: Asides<HostKind, W>,
     I: BufRead,
-    W: Write,
+    W: Output,
 >(
     rt: &R,
     conn: &mut Connection<D>,

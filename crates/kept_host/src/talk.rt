@@ -29,11 +29,11 @@ use console_talk::{Manner, read_line};
 use console_text::Output;
 use kept_lines::{Asides, Hints, KeptDialogue, LinesFault, Wrong, milliseconds, wrong_in};
 use sqlite::{Alter, Connection};
-use std::io::{BufRead, Write};
+use std::io::BufRead;
 use std::time::Clock;
 
 // Tells of a line in which something went wrong, if something did.
-fn told<K: MapKind, H: Hints<K, W>, W: Write>(
+fn told<K: MapKind, H: Hints<K, W>, W: Output>(
     hints: &mut H,
     book: &mut Book<K>,
     files: &[FileText],
@@ -71,7 +71,7 @@ fn keep_now<
     K: MapKind,
     S: Supply<K>,
     H: Hints<K, W>,
-    W: Write,
+    W: Output,
 >(
     rt: &R,
     conn: &mut Connection<D>,
@@ -103,7 +103,7 @@ fn keep_now<
         Ok(tally) => tally,
         Err(fault) => return Err(Broken::Lines(fault)),
     };
-    match out.flush() {
+    match out.flush_all() {
         Ok(()) => {}
         Err(_) => return Err(Broken::Lines(LinesFault::Write)),
     }
@@ -119,7 +119,7 @@ fn keep_told<
     K: MapKind,
     S: Supply<K>,
     A: Asides<K, W>,
-    W: Write,
+    W: Output,
 >(
     rt: &R,
     conn: &mut Connection<D>,
@@ -148,7 +148,7 @@ fn keep_told<
 }
 
 // Does what a line asks that only looks into the journal.
-fn told_look<K: MapKind, A: Asides<K, W>, W: Write>(
+fn told_look<K: MapKind, A: Asides<K, W>, W: Output>(
     book: &mut Book<K>,
     look: &Look<'_>,
     asides: &mut A,
@@ -171,7 +171,7 @@ fn hear<
     K: MapKind,
     S: Supply<K>,
     A: Asides<K, W>,
-    W: Write,
+    W: Output,
 >(
     rt: &R,
     conn: &mut Connection<D>,
@@ -215,7 +215,7 @@ pub(crate) fn keep_talk<
     S: Supply<K>,
     A: Asides<K, W>,
     I: BufRead,
-    W: Write,
+    W: Output,
 >(
     rt: &R,
     conn: &mut Connection<D>,

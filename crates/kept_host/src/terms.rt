@@ -3,7 +3,8 @@
 ghost use Rattle.std.specs.Prelude.{◌≡◌, IfOk};
 ghost use Rattle.kept_host.specs.HostTerms.{kept_limits, host_terms};
 
-use console_script::{HostFault, MOMENTS, devices, limits};
+use bt_syntax::NoMemory;
+use console_script::{MOMENTS, devices, limits};
 use journal_model::Limits;
 use kept_file::Terms;
 use std::alloc::Global;
@@ -25,12 +26,15 @@ fn kept_limits() -> Limits
 ///
 /// # Errors
 /// `NoMemory`.
-pub fn host_terms(alloc: Global) -> Result<Terms, HostFault>
+pub fn host_terms(alloc: Global) -> Result<Terms, NoMemory>
     ensures { IfOk result (λ terms. terms ≡ host_terms) }
 {
-    let devices = devices(alloc)?;
+    let devices = match devices(alloc) {
+        Ok(devices) => devices,
+        Err(_) => return Err(NoMemory),
+    };
     match Terms::new(devices, kept_limits()) {
         Some(terms) => Ok(terms),
-        None => Err(HostFault::NoMemory),
+        None => Err(NoMemory),
     }
 }

@@ -28,22 +28,22 @@ pub returns-in-Live-clause-ran : goal.returns-in-Live-clause-ran
 returns-in-Live-clause-ran g c = rw c.in-Live.is c.go_live.ensures.ran
 
 pub returns-in-Help-clause-only : goal.returns-in-Help-clause-only
-returns-in-Help-clause-only g c = may EndsLines EndsLive c.say-ran.result lines_live c.say-ran.ensures.only
+returns-in-Help-clause-only g c = may (EndsLines _) (EndsLive _) c.say-ran.result (lines_live _) c.say-ran.ensures.only
 
 pub returns-in-Version-clause-only : goal.returns-in-Version-clause-only
-returns-in-Version-clause-only g c = may EndsLines EndsLive c.say-ran-in-Version.result lines_live c.say-ran-in-Version.ensures.only
+returns-in-Version-clause-only g c = may (EndsLines _) (EndsLive _) c.say-ran-in-Version.result (lines_live _) c.say-ran-in-Version.ensures.only
 
 pub returns-in-Shell-clause-only : goal.returns-in-Shell-clause-only
-returns-in-Shell-clause-only g c = may EndsLines EndsLive c.talk-ran.result lines_live c.talk-ran.ensures.only
+returns-in-Shell-clause-only g c = may (EndsLines _) (EndsLive _) c.talk-ran.result (lines_live _) c.talk-ran.ensures.only
 
 pub returns-in-RunInput-clause-only : goal.returns-in-RunInput-clause-only
-returns-in-RunInput-clause-only g c = may EndsLines EndsLive c.talk-ran-in-RunInput.result lines_live c.talk-ran-in-RunInput.ensures.only
+returns-in-RunInput-clause-only g c = may (EndsLines _) (EndsLive _) c.talk-ran-in-RunInput.result (lines_live _) c.talk-ran-in-RunInput.ensures.only
 
 pub returns-in-Run-clause-only : goal.returns-in-Run-clause-only
-returns-in-Run-clause-only g c = may EndsLines EndsLive c.run_file-ran.result lines_live c.run_file-ran.ensures.only
+returns-in-Run-clause-only g c = may (EndsLines _) (EndsLive _) c.run_file-ran.result (lines_live _) c.run_file-ran.ensures.only
 
 pub returns-in-Host-clause-only : goal.returns-in-Host-clause-only
-returns-in-Host-clause-only g c = may EndsFrames EndsLive c.serve-ran.result in_live c.serve-ran.ensures.only
+returns-in-Host-clause-only g c = may (EndsFrames _) (EndsLive _) c.serve-ran.result (in_live _) c.serve-ran.ensures.only
 
 pub returns-in-HostThen-clause-only : goal.returns-in-HostThen-clause-only
-returns-in-HostThen-clause-only g c = may EndsFrames EndsLive c.serve_then-ran.result in_live c.serve_then-ran.ensures.only
+returns-in-HostThen-clause-only g c = may (EndsFrames _) (EndsLive _) c.serve_then-ran.result (in_live _) c.serve_then-ran.ensures.only

@@ -1,4 +1,5 @@
 use Rattle.std.proofs.Common.{inl, inr}
+use Rattle.std.specs.Prelude.{⊤}
 use Rattle.bpfcon.specs.Ends.{EndsRun, EndsProgram}
 use Rattle.bpfcon.proofs.Ending.{may, flushed_ends}
 use Rattle.bpfcon.proofs.Carrying.{flushed_so, did_asked}
@@ -15,7 +16,7 @@ returns-clause-ran g c =
 pub returns-clause-only : goal.returns-clause-only
 returns-clause-only g c =
     let Ends = EndsProgram (g.R.Arguments.may_be c.args.rt.now) (g.R.Surroundings.may_name c.args.rt.now) in
-    flushed_ends Ends c.flush.result c.flushed.result c.answer_request-out.result.1 c.flushed.ensures (inr (inl tt)) (may EndsRun Ends c.answer_request-out.result.1 (λ fault ends. inr ends) c.answer_request-out.ensures.only)
+    flushed_ends Ends c.flush.result c.flushed.result c.answer_request-out.result.1 c.flushed.ensures (inr (inl tt)) (may (EndsRun ⊤) Ends c.answer_request-out.result.1 (λ fault ends. inr ends) c.answer_request-out.ensures.only)
 
 pub returns-in-Err-clause-only : goal.returns-in-Err-clause-only
 returns-in-Err-clause-only g c = inl (c.in-Err.fault, rw c.in-Err.is at c.request_of_args.ensures, c.of_args.ensures)

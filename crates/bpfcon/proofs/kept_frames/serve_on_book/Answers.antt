@@ -1,8 +1,7 @@
-use Rattle.std.proofs.Common.{◌≡◌, inr, refl, sym, subst, Result, Ok, Err, IfErr, IsErrAnd}
+use Rattle.std.proofs.Common.{inr, refl}
 use Rattle.thread_kept_frames.proofs.Hosting.{opened_kept}
-use Rattle.bpfcon.specs.declared.fault.Fault.{Fault}
-use Rattle.bpfcon.specs.Ends.{EndsLines, EndsServed}
-use Rattle.bpfcon.proofs.Ending.{in_book}
+use Rattle.bpfcon.specs.Ends.{EndsServed}
+use Rattle.bpfcon.proofs.Ending.{passed, read_book}
 use Rattle.bpfcon.proofs.kept_frames.serve_on_book.Goals as goal
 
 pub returns-in-Ok-tell_frames-clause-ran : goal.returns-in-Ok-tell_frames-clause-ran
@@ -17,14 +16,9 @@ returns-in-Ok-tell_frames-clause-ran g c = record {
   counts = refl;
 }
 
--- what the exit of a `?` returns
-passed : {A : Type 0} (e : Fault) (r : Result A Fault) → IsErrAnd r (λ made. made ≡ e) → EndsLines e → IfErr r EndsServed
-passed e (Ok it) is ends = absurd is
-passed e (Err made) is ends = subst EndsServed (sym is) (inr (in_book e ends))
-
 pub returns-in_err-script-clause-only : goal.returns-in_err-script-clause-only
-returns-in_err-script-clause-only g c = passed c.in_err-script.field-0.0 c.from_residual.result c.from_residual.ensures.1 c.in_err-script.ensures.only
+returns-in_err-script-clause-only g c = passed (EndsServed _) c.in_err-script.field-0.0 c.from_residual.result c.from_residual.ensures.1 (inr (read_book _ _ c.in_err-script.ensures.only))
 
 pub returns-in_err-bytes-clause-only : goal.returns-in_err-bytes-clause-only
 returns-in_err-bytes-clause-only g c =
-    passed c.in_err-bytes.field-0.0 c.from_residual-in_err-bytes.result c.from_residual-in_err-bytes.ensures.1 c.in_err-bytes.ensures.only
+    passed (EndsServed _) c.in_err-bytes.field-0.0 c.from_residual-in_err-bytes.result c.from_residual-in_err-bytes.ensures.1 (inr (read_book _ _ c.in_err-bytes.ensures.only))

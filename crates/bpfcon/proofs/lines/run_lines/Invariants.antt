@@ -8,8 +8,8 @@ use Rattle.bpfcon.proofs.lines.run_lines.Given as goal
 
 abbrev pub invariant-lines : goal.invariant-lines
 invariant-lines g l =
-    (mishap : Option Mishap) × LeadsOn g.S.Supply.gives g.K.MapKind.seen l.fn.script.files.items l.fn.supply (begun l.fn.book.plain (lines_of l.fn.script.text.items)) (g.W.Write.contents l.fn.out) l.supply
-    (session_of (console_of l.book.plain l.dialogue.runs) l.dialogue.summary (lines_of l.rest) None) (g.W.Write.contents l.out) mishap
+    (mishap : Option Mishap) × LeadsOn g.S.Supply.gives g.K.MapKind.seen l.fn.script.files.items l.fn.supply (begun l.fn.book.plain (lines_of l.fn.script.text.items)) (g.W.Output.contents l.fn.out) l.supply
+    (session_of (console_of l.book.plain l.dialogue.runs) l.dialogue.summary (lines_of l.rest) None) (g.W.Output.contents l.out) mishap
 
 abbrev pub decreases-lines : goal.decreases-lines
 decreases-lines g l = length l.rest

@@ -5,8 +5,8 @@ pub returns-in-Ok-told-clause-ran : goal.returns-in-Ok-told-clause-ran
 returns-in-Ok-told-clause-ran g c =
     if_ok _ c.in-Ok-told.left.ran (λ summary is. record {
       input = _;
-      between = g.W.Write.contents c.flush.new.self;
-      flushed = c.flush.ensures.bytes;
+      between = g.W.Output.contents c.flush_all.new.self;
+      flushed = c.flush_all.ensures.bytes;
       desk = c.in-Ok-open.opened.0;
       opens = c.in-Ok-open.ensures.opening;
       first = c.in-Ok-open.opened.1;

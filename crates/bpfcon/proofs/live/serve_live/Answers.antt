@@ -4,7 +4,7 @@ use Rattle.bpfcon.proofs.live.serve_live.Goals as goal
 pub returns-in-Ok-clause-ran : goal.returns-in-Ok-clause-ran
 returns-in-Ok-clause-ran g c =
     if_ok _ c.go_live.result.1 (λ summary is. record {
-      between = g.W.Write.contents c.begin_live.new.out;
+      between = g.W.Output.contents c.begin_live.new.out;
       left = c.in-Ok.begun.book.plain;
       traffic = c.in-Ok.begun.traffic;
       counts = c.in-Ok.begun.operator.summary;

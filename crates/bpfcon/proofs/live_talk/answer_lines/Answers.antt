@@ -15,7 +15,7 @@ lines-init g c = record {
   looker = c.requires.1;
   most = refl;
   came = come_live_none g.S.Supply.gives g.K.MapKind.seen (AreFilesOf (g.R.FileReader.may_read c.args.rt.now)) c.args.desk.now c.args.traffic.now c.args.operator.now.most_moments (g.I.Read.remaining c.args.input.now)
-      (footing c.args.operator.now.session c.args.seat.now (g.W.Write.contents c.args.out.now)) c.args.operator.now.summary;
+      (footing c.args.operator.now.session c.args.seat.now (g.W.Output.contents c.args.out.now)) c.args.operator.now.summary;
 }
 
 pub lines-preserved : goal.lines-preserved
@@ -24,9 +24,9 @@ lines-preserved g c = record {
   looker = c.hear.ensures.looker;
   most = c.hear.ensures.most ∙ c.lines.invariant.most;
   came = come_live_more g.S.Supply.gives g.K.MapKind.seen (AreFilesOf (g.R.FileReader.may_read c.args.rt.now)) c.args.desk.now c.args.traffic.now c.args.operator.now.most_moments (g.I.Read.remaining c.args.input.now)
-      (footing c.args.operator.now.session c.args.seat.now (g.W.Write.contents c.args.out.now)) c.args.operator.now.summary
+      (footing c.args.operator.now.session c.args.seat.now (g.W.Output.contents c.args.out.now)) c.args.operator.now.summary
       (g.I.Read.remaining c.lines.input) (g.I.Read.remaining c.read_line.new.input)
-      (footing c.lines.operator.session c.lines.seat (g.W.Write.contents c.lines.out)) (footing c.hear.new.operator.session c.hear.new.seat (g.W.Write.contents c.hear.new.out))
+      (footing c.lines.operator.session c.lines.seat (g.W.Output.contents c.lines.out)) (footing c.hear.new.operator.session c.hear.new.seat (g.W.Output.contents c.hear.new.out))
       c.lines.operator.summary c.hear.new.operator.summary c.in_ok-hear.ensures.goes.0
       c.read_line.new.line.items c.first_line.result.0.now c.first_line.result.1.now c.lines.invariant.came c.in-Ok.ensures.line c.in-Ok.ensures.rest
       (rw c.as_slice-text.ensures.value at (some_given _ (sym c.is_empty.ensures ∙ c.if-is_empty.false)))

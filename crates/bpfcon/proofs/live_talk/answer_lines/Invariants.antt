@@ -14,5 +14,5 @@ invariant-lines g l = record {
   looker : IsSeatAt l.desk l.looker;
   most : l.operator.most_moments ≡ l.fn.operator.most_moments;
   came : HasComeLive g.S.Supply.gives g.K.MapKind.seen (AreFilesOf (g.R.FileReader.may_read l.rt)) l.desk l.traffic l.fn.operator.most_moments (g.I.Read.remaining l.fn.input)
-      (footing l.fn.operator.session l.fn.seat (g.W.Write.contents l.fn.out)) l.fn.operator.summary (g.I.Read.remaining l.input) (footing l.operator.session l.seat (g.W.Write.contents l.out)) l.operator.summary;
+      (footing l.fn.operator.session l.fn.seat (g.W.Output.contents l.fn.out)) l.fn.operator.summary (g.I.Read.remaining l.input) (footing l.operator.session l.seat (g.W.Output.contents l.out)) l.operator.summary;
 }

@@ -9,7 +9,7 @@ returns-clause-answered g c =
       c.in_ok-files.files.items,
       record {
         files = c.in_ok-files.ensures;
-        done = footing c.answer_line.new.operator.session c.answer_line.new.seat (g.W.Write.contents c.answer_line.new.out);
+        done = footing c.answer_line.new.operator.session c.answer_line.new.seat (g.W.Output.contents c.answer_line.new.out);
         tally = c.in_ok-tally.tally;
         goes = rw c.as_slice-files.ensures.value at c.in_ok-tally.ensures.goes;
         counted = c.in_ok-tally.ensures.counted;

@@ -20,13 +20,13 @@ returns-then-is_asked_by-clause-goes g c = (
 pub returns-in-Some-clause-goes : goal.returns-in-Some-clause-goes
 returns-in-Some-clause-goes g c =
     looked_live g.S.Supply.gives g.K.MapKind.seen (AreFilesOf (g.R.FileReader.may_read c.args.rt.now)) c.args.desk.now c.args.traffic.now c.args.operator.now.most_moments c.args.place.line.now
-    (footing c.args.operator.now.session c.args.seat.now (g.W.Write.contents c.args.out.now)) (footing c.args.operator.now.session c.args.seat.now (g.W.Write.contents c.look_now.new.out))
+    (footing c.args.operator.now.session c.args.seat.now (g.W.Output.contents c.args.out.now)) (footing c.args.operator.now.session c.args.seat.now (g.W.Output.contents c.look_now.new.out))
     c.args.operator.now.summary c.args.operator.now.summary c.look_now.result c.in-Some.look c.args.looker.now c.look_now.new.looker
     (goes_on c.is_asked_by.result (Asks Dialogue c.args.place.line.now) c.is_asked_by.ensures c.if-is_asked_by.false) (sym c.in-Some.ensures) c.requires.1 c.look_now.ensures.told refl refl refl
 
 pub returns-in-None-clause-goes : goal.returns-in-None-clause-goes
 returns-in-None-clause-goes g c =
     heard_live g.S.Supply.gives g.K.MapKind.seen (AreFilesOf (g.R.FileReader.may_read c.args.rt.now)) c.args.desk.now c.args.traffic.now c.args.operator.now.most_moments c.args.place.line.now
-    (footing c.args.operator.now.session c.args.seat.now (g.W.Write.contents c.args.out.now)) (footing c.answer_told.new.operator.session c.answer_told.new.seat (g.W.Write.contents c.answer_told.new.out))
+    (footing c.args.operator.now.session c.args.seat.now (g.W.Output.contents c.args.out.now)) (footing c.answer_told.new.operator.session c.answer_told.new.seat (g.W.Output.contents c.answer_told.new.out))
     c.args.operator.now.summary c.answer_told.new.operator.summary c.answer_told.result
     (goes_on c.is_asked_by.result (Asks Dialogue c.args.place.line.now) c.is_asked_by.ensures c.if-is_asked_by.false) (sym c.in-None.ensures) c.answer_told.ensures.answered

@@ -7,4 +7,4 @@ returns-then-not-is_there-clause-ran g c = taken_anew _ c.args.range _ _ c.refus
 
 pub returns-in-Ok-clause-ran : goal.returns-in-Ok-clause-ran
 returns-in-Ok-clause-ran g c =
-    took_on (g.R.Databases.may_open c.args.rt.now (string_bytes c.args.file)) c.args.range (g.W.Write.contents c.args.out.now) (g.W.Write.contents c.take_at.new.out) c.in-Ok.taken (rw (c.as_str-2.ensures.value, c.in_ok-terms.ensures) at c.in-Ok.ensures) c.counts.result c.counts.ensures
+    took_on (g.R.Databases.may_open c.args.rt.now (string_bytes c.args.file)) c.args.range (g.W.Output.contents c.args.out.now) (g.W.Output.contents c.take_at.new.out) c.in-Ok.taken (rw (c.as_str-2.ensures.value, c.in_ok-terms.ensures) at c.in-Ok.ensures) c.counts.result c.counts.ensures

@@ -10,18 +10,18 @@ use Rattle.bpfcon.proofs.talk.answer_lines.Goals as goal
 pub lines-init : goal.lines-init
 lines-init g c = record {
   came = rw c.new-dialogue.ensures
-      (come_none g.S.Supply.gives g.K.MapKind.seen (AreFilesOf (g.R.FileReader.may_read c.args.rt.now)) c.args.manner (g.I.Read.remaining c.args.input.now) c.args.book.now.plain c.args.supply.now (g.W.Write.contents c.args.out.now));
+      (come_none g.S.Supply.gives g.K.MapKind.seen (AreFilesOf (g.R.FileReader.may_read c.args.rt.now)) c.args.manner (g.I.Read.remaining c.args.input.now) c.args.book.now.plain c.args.supply.now (g.W.Output.contents c.args.out.now));
   takes = takes_none (g.I.Read.remaining c.args.input.now);
 }
 
 pub lines-preserved : goal.lines-preserved
 lines-preserved g c = record {
   came =
-      come_more g.S.Supply.gives g.K.MapKind.seen (AreFilesOf (g.R.FileReader.may_read c.args.rt.now)) c.args.manner (g.I.Read.remaining c.args.input.now) c.args.book.now.plain c.args.supply.now (g.W.Write.contents c.args.out.now)
+      come_more g.S.Supply.gives g.K.MapKind.seen (AreFilesOf (g.R.FileReader.may_read c.args.rt.now)) c.args.manner (g.I.Read.remaining c.args.input.now) c.args.book.now.plain c.args.supply.now (g.W.Output.contents c.args.out.now)
       (g.I.Read.remaining c.lines.input) (g.I.Read.remaining c.read_line.new.input) c.lines.supply c.hear.new.supply
       (standing (console_of c.lines.book.plain c.lines.dialogue.runs) c.lines.dialogue.summary)
       (standing (console_of c.hear.new.book.plain c.hear.new.dialogue.runs) c.hear.new.dialogue.summary)
-      (g.W.Write.contents c.lines.out) (g.W.Write.contents c.hear.new.out) c.in_ok-hear.ensures.ran.0
+      (g.W.Output.contents c.lines.out) (g.W.Output.contents c.hear.new.out) c.in_ok-hear.ensures.ran.0
       c.read_line.new.line.items c.first_line.result.0.now c.first_line.result.1.now c.lines.invariant.came c.in-Ok.ensures.line c.in-Ok.ensures.rest
       (rw c.as_slice-text.ensures.value at (some_given _ (sym c.is_empty.ensures ∙ c.if-is_empty.false)))
       (rw c.as_slice-text.ensures.value at c.first_line.ensures.lines)

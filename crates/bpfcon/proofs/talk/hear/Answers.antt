@@ -21,7 +21,7 @@ returns-in-Some-clause-ran g c =
     looked g.S.Supply.gives g.K.MapKind.seen (AreFilesOf (g.R.FileReader.may_read c.args.rt.now)) c.args.manner c.args.place.line.now c.in-Some.look c.args.supply.now
     (standing (console_of c.args.book.now.plain c.args.dialogue.now.runs) c.args.dialogue.now.summary)
     (standing (console_of c.look_now.new.book.plain c.args.dialogue.now.runs) c.args.dialogue.now.summary)
-    (g.W.Write.contents c.args.out.now) (g.W.Write.contents c.look_now.new.out) c.look_now.result
+    (g.W.Output.contents c.args.out.now) (g.W.Output.contents c.look_now.new.out) c.look_now.result
     (goes_on c.is_asked_by.result (Asks c.args.manner c.args.place.line.now) c.is_asked_by.ensures c.if-is_asked_by.false) (sym c.in-Some.ensures)
     (ap (λ b. standing (console_of b c.args.dialogue.now.runs) c.args.dialogue.now.summary) c.look_now.ensures.same) c.look_now.ensures.told
 
@@ -30,5 +30,5 @@ returns-in-None-clause-ran g c =
     heard g.S.Supply.gives g.K.MapKind.seen (AreFilesOf (g.R.FileReader.may_read c.args.rt.now)) c.args.manner c.args.place.line.now c.args.supply.now c.answer_told.new.supply
     (standing (console_of c.args.book.now.plain c.args.dialogue.now.runs) c.args.dialogue.now.summary)
     (standing (console_of c.answer_told.new.book.plain c.answer_told.new.dialogue.runs) c.answer_told.new.dialogue.summary)
-    (g.W.Write.contents c.args.out.now) (g.W.Write.contents c.answer_told.new.out) c.answer_told.result
+    (g.W.Output.contents c.args.out.now) (g.W.Output.contents c.answer_told.new.out) c.answer_told.result
     (goes_on c.is_asked_by.result (Asks c.args.manner c.args.place.line.now) c.is_asked_by.ensures c.if-is_asked_by.false) (sym c.in-None.ensures) c.answer_told.ensures.ran

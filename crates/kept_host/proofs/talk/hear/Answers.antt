@@ -24,7 +24,7 @@ returns-in-Some-clause-goes g c =
     looked g.S.Supply.gives g.K.MapKind.seen (AreFilesOf (g.R.FileReader.may_read c.args.rt.now)) Dialogue c.args.line.now c.in-Some.look c.args.supply.now
     (standing (console_of c.args.book.now.plain c.args.dialogue.now.runs) c.args.dialogue.now.summary)
     (standing (console_of c.told_look.new.book.plain c.args.dialogue.now.runs) c.args.dialogue.now.summary)
-    (g.W.Write.contents c.args.out.now) (g.W.Write.contents c.told_look.new.out) c.told_look.result
+    (g.W.Output.contents c.args.out.now) (g.W.Output.contents c.told_look.new.out) c.told_look.result
     (goes_on c.is_asked_by.result (AsksForHelp c.args.line.now) c.is_asked_by.ensures c.if-is_asked_by.false) (sym c.in-Some.ensures)
     (ap (λ b. standing (console_of b c.args.dialogue.now.runs) c.args.dialogue.now.summary) c.told_look.ensures.same) c.told_look.ensures.told
 
@@ -34,12 +34,12 @@ returns-in-Some-clause-kept g c clean t on = still_kept t (state g.D.Store c.arg
 pub returns-in-Some-clause-part : goal.returns-in-Some-clause-part
 returns-in-Some-clause-part g c =
     part_look (AreFilesOf (g.R.FileReader.may_read c.args.rt.now)) (standing (console_of c.args.book.now.plain c.args.dialogue.now.runs) c.args.dialogue.now.summary) c.args.line.now
-    (g.W.Write.contents c.args.out.now) (g.W.Write.contents c.told_look.new.out) (state g.D.Store c.args.conn.now) c.in-Some.look c.told_look.result (sym c.in-Some.ensures) c.told_look.ensures.front
+    (g.W.Output.contents c.args.out.now) (g.W.Output.contents c.told_look.new.out) (state g.D.Store c.args.conn.now) c.in-Some.look c.told_look.result (sym c.in-Some.ensures) c.told_look.ensures.front
 
 pub returns-in-None-clause-goes : goal.returns-in-None-clause-goes
 returns-in-None-clause-goes g c =
     heard g.S.Supply.gives g.K.MapKind.seen (AreFilesOf (g.R.FileReader.may_read c.args.rt.now)) Dialogue c.args.line.now c.args.supply.now c.keep_told.new.supply
     (standing (console_of c.args.book.now.plain c.args.dialogue.now.runs) c.args.dialogue.now.summary)
     (standing (console_of c.keep_told.new.book.plain c.keep_told.new.dialogue.runs) c.keep_told.new.dialogue.summary)
-    (g.W.Write.contents c.args.out.now) (g.W.Write.contents c.keep_told.new.out) c.keep_told.result
+    (g.W.Output.contents c.args.out.now) (g.W.Output.contents c.keep_told.new.out) c.keep_told.result
     (goes_on c.is_asked_by.result (AsksForHelp c.args.line.now) c.is_asked_by.ensures c.if-is_asked_by.false) (sym c.in-None.ensures) c.keep_told.ensures.answered

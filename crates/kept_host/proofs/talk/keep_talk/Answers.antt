@@ -14,7 +14,7 @@ use Rattle.kept_host.proofs.talk.keep_talk.Goals as goal
 pub lines-init : goal.lines-init
 lines-init g c = record {
   came = rw c.new-dialogue.ensures
-      (come_none g.S.Supply.gives g.K.MapKind.seen (AreFilesOf (g.R.FileReader.may_read c.args.rt.now)) Dialogue (g.I.Read.remaining c.args.input.now) c.args.book.now.plain c.args.supply.now (g.W.Write.contents c.args.out.now));
+      (come_none g.S.Supply.gives g.K.MapKind.seen (AreFilesOf (g.R.FileReader.may_read c.args.rt.now)) Dialogue (g.I.Read.remaining c.args.input.now) c.args.book.now.plain c.args.supply.now (g.W.Output.contents c.args.out.now));
   takes = takes_none (g.I.Read.remaining c.args.input.now);
   clean = λ clean. clean;
   disk = λ clean t on. on;
@@ -23,11 +23,11 @@ lines-init g c = record {
 pub lines-preserved : goal.lines-preserved
 lines-preserved g c = record {
   came =
-      come_more g.S.Supply.gives g.K.MapKind.seen (AreFilesOf (g.R.FileReader.may_read c.args.rt.now)) Dialogue (g.I.Read.remaining c.args.input.now) c.args.book.now.plain c.args.supply.now (g.W.Write.contents c.args.out.now)
+      come_more g.S.Supply.gives g.K.MapKind.seen (AreFilesOf (g.R.FileReader.may_read c.args.rt.now)) Dialogue (g.I.Read.remaining c.args.input.now) c.args.book.now.plain c.args.supply.now (g.W.Output.contents c.args.out.now)
       (g.I.Read.remaining c.lines.input) (g.I.Read.remaining c.read_line.new.input) c.lines.supply c.hear.new.supply
       (standing (console_of c.lines.book.plain c.lines.dialogue.runs) c.lines.dialogue.summary)
       (standing (console_of c.hear.new.book.plain c.hear.new.dialogue.runs) c.hear.new.dialogue.summary)
-      (g.W.Write.contents c.lines.out) (g.W.Write.contents c.hear.new.out) c.in-Ok-hear.ensures.goes.0
+      (g.W.Output.contents c.lines.out) (g.W.Output.contents c.hear.new.out) c.in-Ok-hear.ensures.goes.0
       c.read_line.new.line.items c.first_line.result.0.now c.first_line.result.1.now c.lines.invariant.came c.in-Ok.ensures.line c.in-Ok.ensures.rest
       (rw c.as_slice-text.ensures.value at (some_given _ (sym c.is_empty.ensures ∙ c.if-is_empty.false)))
       (rw c.as_slice-text.ensures.value at c.first_line.ensures.lines)
@@ -70,8 +70,8 @@ returns-in-Err-clause-clean g c = c.lines.invariant.clean
 
 pub returns-in-Err-clause-left : goal.returns-in-Err-clause-left
 returns-in-Err-clause-left g c clean t on =
-    front_here (AreSupplied g.S.Supply.gives g.K.MapKind.seen) (AreFilesOf (g.R.FileReader.may_read c.args.rt.now)) (g.I.Read.remaining c.args.input.now) c.args.book.now.plain c.args.supply.now (g.W.Write.contents c.args.out.now)
-    (g.I.Read.remaining c.lines.input) c.lines.supply (standing (console_of c.lines.book.plain c.lines.dialogue.runs) c.lines.dialogue.summary) (g.W.Write.contents c.lines.out) c.lines.invariant.came t (state g.D.Store c.lines.conn)
+    front_here (AreSupplied g.S.Supply.gives g.K.MapKind.seen) (AreFilesOf (g.R.FileReader.may_read c.args.rt.now)) (g.I.Read.remaining c.args.input.now) c.args.book.now.plain c.args.supply.now (g.W.Output.contents c.args.out.now)
+    (g.I.Read.remaining c.lines.input) c.lines.supply (standing (console_of c.lines.book.plain c.lines.dialogue.runs) c.lines.dialogue.summary) (g.W.Output.contents c.lines.out) c.lines.invariant.came t (state g.D.Store c.lines.conn)
     (c.lines.invariant.disk clean t on).leaves
 
 pub returns-in-Err-hear-clause-clean : goal.returns-in-Err-hear-clause-clean
@@ -79,9 +79,9 @@ returns-in-Err-hear-clause-clean g c clean = c.lines.invariant.clean (c.hear.ens
 
 pub returns-in-Err-hear-clause-left : goal.returns-in-Err-hear-clause-left
 returns-in-Err-hear-clause-left g c clean t on =
-    front_further (AreSupplied g.S.Supply.gives g.K.MapKind.seen) (AreFilesOf (g.R.FileReader.may_read c.args.rt.now)) (g.I.Read.remaining c.args.input.now) c.args.book.now.plain c.args.supply.now (g.W.Write.contents c.args.out.now)
-    (g.I.Read.remaining c.lines.input) c.lines.supply (standing (console_of c.lines.book.plain c.lines.dialogue.runs) c.lines.dialogue.summary) (g.W.Write.contents c.lines.out) c.lines.invariant.came t (state g.D.Store c.hear.new.conn)
-    c.first_line.result.0.now (g.W.Write.contents c.hear.new.out)
+    front_further (AreSupplied g.S.Supply.gives g.K.MapKind.seen) (AreFilesOf (g.R.FileReader.may_read c.args.rt.now)) (g.I.Read.remaining c.args.input.now) c.args.book.now.plain c.args.supply.now (g.W.Output.contents c.args.out.now)
+    (g.I.Read.remaining c.lines.input) c.lines.supply (standing (console_of c.lines.book.plain c.lines.dialogue.runs) c.lines.dialogue.summary) (g.W.Output.contents c.lines.out) c.lines.invariant.came t (state g.D.Store c.hear.new.conn)
+    c.first_line.result.0.now (g.W.Output.contents c.hear.new.out)
     (next_line (g.I.Read.remaining c.lines.input) c.read_line.new.line.items c.first_line.result.0.now c.first_line.result.1.now c.in-Ok.ensures.line
     (rw c.as_slice-text.ensures.value at (some_given _ (sym c.is_empty.ensures ∙ c.if-is_empty.false)))
     (rw c.as_slice-text.ensures.value at c.first_line.ensures.lines))

@@ -16,4 +16,4 @@ terms_are devices l t names bounds is =
     sym parts.1 ∙ (λ i. record { devices = names i; limits = bounds i })
 
 pub returns-in-Some : goal.returns-in-Some
-returns-in-Some c = terms_are c.in_ok-devices.devices.items c.kept_limits.result c.in-Some.terms c.in_ok-devices.ensures.named c.kept_limits.ensures (sym c.in-Some.ensures)
+returns-in-Some c = terms_are c.in-Ok.devices.items c.kept_limits.result c.in-Some.terms c.in-Ok.ensures.named c.kept_limits.ensures (sym c.in-Some.ensures)
