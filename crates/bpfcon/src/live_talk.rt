@@ -198,39 +198,8 @@ fn look_now<K: MapKind, R: Eprint + AllocGlobal + Wait, W: Output>(
     }
 }
 
-// Answers a line that asks for a command, and tells what is to be known of it beside its answer.
-fn answer_told<
-    K: MapKind,
-    S: Supply<K>,
-    R: FileReader + Eprint + AllocGlobal + Wait + Clock,
-    W: Output,
->(
-    rt: &R,
-    desk: &Desk<K>,
-    seat: &mut Seat<K>,
-    looker: &mut Seat<K>,
-    traffic: &Traffic,
-    operator: &mut Operator<S>,
-    place: Place<'_>,
-    out: &mut W,
-) -> Result<(), Fault>
-    requires { IsSeatAt desk.now seat.old × IsSeatAt desk.now looker.old }
-    ensures seat { IsSeatAt desk.now seat.new }
-    ensures looker { IsSeatAt desk.now looker.new }
-    ensures most { operator.new.most_moments ≡ operator.old.most_moments }
-    ensures answered { IfOk result (λ _. (files : List FileText) × IsAnsweredLive S.gives K.seen (AreFilesOf (R.may_read rt.now)) desk.now traffic.now operator.old.most_moments (said place.entry.line.now files)
-        (footing operator.old.session seat.old (W.contents out.old)) operator.old.summary (footing operator.new.session seat.new (W.contents out.new)) operator.new.summary) }
-    ensures only { IfErr result (EndsLive (W.has_refused out.new)) }
-{
-    tell_held_at(rt, desk, looker, place.line);
-    let turning = Turning::before_at(rt, desk, looker, place.line);
-    let before = operator.summary.accepted;
-    let ran = answer_now(rt, desk, seat, looker, traffic, operator, place, out);
-    told_after(rt, turning, operator, before, place.line);
-    ran
-}
-
-// Gives help on standard error if a line asks for it, looks at the journal if it asks for that, and else answers the line.
+// Gives help on standard error if a line asks for it, looks at the journal if it asks for that, and else answers the line, and tells
+// what there is to tell beside its answer.
 fn hear<K: MapKind, S: Supply<K>, R: FileReader + Eprint + AllocGlobal + Wait + Clock, W: Output>(
     rt: &R,
     desk: &Desk<K>,
@@ -255,7 +224,14 @@ fn hear<K: MapKind, S: Supply<K>, R: FileReader + Eprint + AllocGlobal + Wait + 
     }
     match Manner::Dialogue.look_in(place.line) {
         Some(look) => look_now(rt, desk, looker, &look, out),
-        None => answer_told(rt, desk, seat, looker, traffic, operator, place, out),
+        None => {
+            tell_held_at(rt, desk, looker, place.line);
+            let turning = Turning::before_at(rt, desk, looker, place.line);
+            let before = operator.summary.accepted;
+            let ran = answer_now(rt, desk, seat, looker, traffic, operator, place, out);
+            told_after(rt, turning, operator, before, place.line);
+            ran
+        }
     }
 }
 

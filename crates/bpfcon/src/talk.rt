@@ -86,27 +86,6 @@ fn answer_now<R: FileReader + Eprint + AllocGlobal, K: MapKind, S: Supply<K>, W:
     }
 }
 
-// Answers a line, and tells what there is to tell beside its answer.
-fn answer_told<R: FileReader + Eprint + AllocGlobal, K: MapKind, S: Supply<K>, W: Output>(
-    rt: &R,
-    manner: Manner,
-    book: &mut Book<K>,
-    dialogue: &mut Dialogue,
-    supply: &mut S,
-    place: Place<'_>,
-    out: &mut W,
-) -> Result<(), Fault>
-    ensures ran { IfOk result (λ _. (files : List FileText) × IsAnswered (AreSupplied S.gives K.seen) (AreFilesOf (R.may_read rt.now)) (said place.entry.line.now files) supply.old
-        (standing (console_of book.old.plain dialogue.old.runs) dialogue.old.summary) (W.contents out.old) supply.new (standing (console_of book.new.plain dialogue.new.runs) dialogue.new.summary) (W.contents out.new)) }
-    ensures only { IfErr result (EndsLines (W.has_refused out.new)) }
-{
-    let turning = look_before(rt, manner, book, place.line);
-    let before = dialogue.summary().accepted;
-    let ran = answer_now(rt, book, dialogue, supply, place, out);
-    told_after(rt, manner, turning, book, dialogue, before, place.line);
-    ran
-}
-
 // Shows the change of a serial.
 fn show_now<K: MapKind, W: Output>(
     book: &mut Book<K>,
@@ -143,7 +122,8 @@ fn look_now<R: Eprint + AllocGlobal, K: MapKind, W: Output>(
     }
 }
 
-// Gives help on standard error if a line asks for it, looks into the journal if it asks for that, and else answers the line.
+// Gives help on standard error if a line asks for it, looks into the journal if it asks for that, and else answers the line, and
+// tells what there is to tell beside its answer.
 fn hear<R: FileReader + Eprint + AllocGlobal, K: MapKind, S: Supply<K>, W: Output>(
     rt: &R,
     manner: Manner,
@@ -163,7 +143,13 @@ fn hear<R: FileReader + Eprint + AllocGlobal, K: MapKind, S: Supply<K>, W: Outpu
     }
     match manner.look_in(place.line) {
         Some(look) => look_now(rt, book, &look, out),
-        None => answer_told(rt, manner, book, dialogue, supply, place, out),
+        None => {
+            let turning = look_before(rt, manner, book, place.line);
+            let before = dialogue.summary().accepted;
+            let ran = answer_now(rt, book, dialogue, supply, place, out);
+            told_after(rt, manner, turning, book, dialogue, before, place.line);
+            ran
+        }
     }
 }
 

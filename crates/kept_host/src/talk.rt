@@ -112,41 +112,6 @@ fn keep_now<
     Ok(())
 }
 
-// Keeps and answers a line, and tells what there is to tell beside its answer.
-fn keep_told<
-    D: Alter,
-    R: FileReader + Clock + AllocGlobal,
-    K: MapKind,
-    S: Supply<K>,
-    A: Asides<K, W>,
-    W: Output,
->(
-    rt: &R,
-    conn: &mut Connection<D>,
-    book: &mut Book<K>,
-    dialogue: &mut KeptDialogue,
-    supply: &mut S,
-    asides: &mut A,
-    number: u64,
-    line: &[u8],
-    out: &mut W,
-) -> Result<(), Broken>
-    ensures answered { IfOk result (λ _. (files : List Named) × IsAnswered (AreSupplied S.gives K.seen) (AreFilesOf (R.may_read rt.now)) (said line.now files) supply.old
-        (standing (console_of book.old.plain dialogue.old.runs) dialogue.old.summary) (W.contents out.old) supply.new (standing (console_of book.new.plain dialogue.new.runs) dialogue.new.summary) (W.contents out.new)) }
-    ensures clean { HasCleanDisk (state D.Store conn.new) → HasCleanDisk (state D.Store conn.old) }
-    ensures kept { HasCleanDisk (state D.Store conn.new) → (t : PlainTerms) → IsOnDisk t (state D.Store conn.old) book.old.plain
-        → OnOk result (IsOnDisk t (state D.Store conn.new) book.new.plain) }
-    ensures part { OnErr result (HasCleanDisk (state D.Store conn.new) → (t : PlainTerms) → IsOnDisk t (state D.Store conn.old) book.old.plain
-        → LeavesOnly (HoldsOne t (IsPart (AreFilesOf (R.may_read rt.now)) (standing (console_of book.old.plain dialogue.old.runs) dialogue.old.summary) line.now (W.contents out.old) (W.contents out.new)))
-        (state D.Store conn.new)) }
-{
-    asides.before(book, line);
-    let before = dialogue.summary().accepted;
-    let kept = keep_now(rt, conn, book, dialogue, supply, asides, number, line, out);
-    told_after::<K, A, W>(asides, book, dialogue, before, line, &kept);
-    kept
-}
-
 // Does what a line asks that only looks into the journal.
 fn told_look<K: MapKind, A: Asides<K, W>, W: Output>(
     book: &mut Book<K>,
@@ -164,7 +129,8 @@ fn told_look<K: MapKind, A: Asides<K, W>, W: Output>(
     }
 }
 
-// Gives help if a line asks for it, looks into the journal if it asks for that, and else keeps and answers the line.
+// Gives help if a line asks for it, looks into the journal if it asks for that, and else keeps and answers the line, and tells what
+// there is to tell beside its answer.
 fn hear<
     D: Alter,
     R: FileReader + Clock + AllocGlobal,
@@ -198,7 +164,13 @@ fn hear<
     }
     match Manner::Dialogue.look_in(line) {
         Some(look) => told_look(book, &look, asides, out),
-        None => keep_told(rt, conn, book, dialogue, supply, asides, number, line, out),
+        None => {
+            asides.before(book, line);
+            let before = dialogue.summary().accepted;
+            let kept = keep_now(rt, conn, book, dialogue, supply, asides, number, line, out);
+            told_after::<K, A, W>(asides, book, dialogue, before, line, &kept);
+            kept
+        }
     }
 }
 

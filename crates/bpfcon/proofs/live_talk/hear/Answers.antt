@@ -27,6 +27,6 @@ returns-in-Some-clause-goes g c =
 pub returns-in-None-clause-goes : goal.returns-in-None-clause-goes
 returns-in-None-clause-goes g c =
     heard_live g.S.Supply.gives g.K.MapKind.seen (AreFilesOf (g.R.FileReader.may_read c.args.rt.now)) c.args.desk.now c.args.traffic.now c.args.operator.now.most_moments c.args.place.line.now
-    (footing c.args.operator.now.session c.args.seat.now (g.W.Output.contents c.args.out.now)) (footing c.answer_told.new.operator.session c.answer_told.new.seat (g.W.Output.contents c.answer_told.new.out))
-    c.args.operator.now.summary c.answer_told.new.operator.summary c.answer_told.result
-    (goes_on c.is_asked_by.result (Asks Dialogue c.args.place.line.now) c.is_asked_by.ensures c.if-is_asked_by.false) (sym c.in-None.ensures) c.answer_told.ensures.answered
+    (footing c.args.operator.now.session c.args.seat.now (g.W.Output.contents c.args.out.now)) (footing c.answer_now-ran.new.operator.session c.answer_now-ran.new.seat (g.W.Output.contents c.answer_now-ran.new.out))
+    c.args.operator.now.summary c.answer_now-ran.new.operator.summary c.answer_now-ran.result
+    (goes_on c.is_asked_by.result (Asks Dialogue c.args.place.line.now) c.is_asked_by.ensures c.if-is_asked_by.false) (sym c.in-None.ensures) c.answer_now-ran.ensures.answered

@@ -27,8 +27,8 @@ returns-in-Some-clause-ran g c =
 
 pub returns-in-None-clause-ran : goal.returns-in-None-clause-ran
 returns-in-None-clause-ran g c =
-    heard g.S.Supply.gives g.K.MapKind.seen (AreFilesOf (g.R.FileReader.may_read c.args.rt.now)) c.args.manner c.args.place.line.now c.args.supply.now c.answer_told.new.supply
+    heard g.S.Supply.gives g.K.MapKind.seen (AreFilesOf (g.R.FileReader.may_read c.args.rt.now)) c.args.manner c.args.place.line.now c.args.supply.now c.answer_now-ran.new.supply
     (standing (console_of c.args.book.now.plain c.args.dialogue.now.runs) c.args.dialogue.now.summary)
-    (standing (console_of c.answer_told.new.book.plain c.answer_told.new.dialogue.runs) c.answer_told.new.dialogue.summary)
-    (g.W.Output.contents c.args.out.now) (g.W.Output.contents c.answer_told.new.out) c.answer_told.result
-    (goes_on c.is_asked_by.result (Asks c.args.manner c.args.place.line.now) c.is_asked_by.ensures c.if-is_asked_by.false) (sym c.in-None.ensures) c.answer_told.ensures.ran
+    (standing (console_of c.answer_now-ran.new.book.plain c.answer_now-ran.new.dialogue.runs) c.answer_now-ran.new.dialogue.summary)
+    (g.W.Output.contents c.args.out.now) (g.W.Output.contents c.answer_now-ran.new.out) c.answer_now-ran.result
+    (goes_on c.is_asked_by.result (Asks c.args.manner c.args.place.line.now) c.is_asked_by.ensures c.if-is_asked_by.false) (sym c.in-None.ensures) c.answer_now-ran.ensures.answered

@@ -38,8 +38,8 @@ returns-in-Some-clause-part g c =
 
 pub returns-in-None-clause-goes : goal.returns-in-None-clause-goes
 returns-in-None-clause-goes g c =
-    heard g.S.Supply.gives g.K.MapKind.seen (AreFilesOf (g.R.FileReader.may_read c.args.rt.now)) Dialogue c.args.line.now c.args.supply.now c.keep_told.new.supply
+    heard g.S.Supply.gives g.K.MapKind.seen (AreFilesOf (g.R.FileReader.may_read c.args.rt.now)) Dialogue c.args.line.now c.args.supply.now c.keep_now-kept.new.supply
     (standing (console_of c.args.book.now.plain c.args.dialogue.now.runs) c.args.dialogue.now.summary)
-    (standing (console_of c.keep_told.new.book.plain c.keep_told.new.dialogue.runs) c.keep_told.new.dialogue.summary)
-    (g.W.Output.contents c.args.out.now) (g.W.Output.contents c.keep_told.new.out) c.keep_told.result
-    (goes_on c.is_asked_by.result (AsksForHelp c.args.line.now) c.is_asked_by.ensures c.if-is_asked_by.false) (sym c.in-None.ensures) c.keep_told.ensures.answered
+    (standing (console_of c.keep_now-kept.new.book.plain c.keep_now-kept.new.dialogue.runs) c.keep_now-kept.new.dialogue.summary)
+    (g.W.Output.contents c.args.out.now) (g.W.Output.contents c.keep_now-kept.new.out) c.keep_now-kept.result
+    (goes_on c.is_asked_by.result (AsksForHelp c.args.line.now) c.is_asked_by.ensures c.if-is_asked_by.false) (sym c.in-None.ensures) c.keep_now-kept.ensures.answered
