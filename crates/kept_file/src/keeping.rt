@@ -11,6 +11,7 @@ ghost use Rattle.kept_book.specs.Noted.{changes_since};
 ghost use Rattle.kept_ledger.specs.Statements.{adding, making, HasReason};
 ghost use Rattle.kept_ledger.specs.Ledger.{Entry, IsLedgerOf, Commits, stamped};
 ghost use Rattle.kept_file.specs.Keeps.{Keeps, HoldsBook, start_of};
+ghost use Rattle.kept_file.specs.declared.fault.KeepFault.TheVariants.{Incomplete};
 
 use crate::fault::KeepFault;
 use bt_journal::Book;
@@ -71,6 +72,7 @@ pub fn noted<K: MapKind>(
 ) -> Result<Vec<KeptEvent>, KeepFault>
     ensures changes { IfOk result (λ noted. noted.items ≡ changes_since since book.now.plain) }
     ensures whole { IfOk result (λ noted. since + length noted.items ≡ book.now.plain.last_serial) }
+    ensures why { IfErr result (λ fault. fault ≡ Incomplete → ¬ (since + length (changes_since since book.now.plain) ≡ book.now.plain.last_serial)) }
 {
     let noted = changes_since(alloc, book, since)?;
     let last = book.last_serial();
