@@ -8,8 +8,8 @@ use Rattle.bpfcon.specs.Faults.{IsOfArgs}
 use Rattle.bpfcon.specs.declared.fault.Fault.{Fault}
 use Rattle.bpfcon.specs.declared.fault.Fault.TheVariants.{Unread, BadFrames, NoMemory, NoThread, Spent, OfFile, OfFrames, OfLog, CannotWrite}
 
--- what ends a part: a lack of memory and an input that is not read end any; the others may, as the part refuses to write, serves
--- frames, is a live host, or has its book in a file
+-- what ends a part: a lack of memory and an input that is not read end any; the others may, if its output has refused to write, or
+-- as it serves frames, is a live host, or has its book in a file
 abbrev pub EndsPart : Type 0 → Type 0 → Type 0 → Type 0 → Fault → Type 0
 EndsPart refused frames live book NoMemory = ⊤
 EndsPart refused frames live book (Unread name cause) = ⊤
