@@ -17,14 +17,14 @@ use Rattle.console_looks.specs.declared.look.Look.{Look}
 use Rattle.kept_log.specs.declared.line.LogLine.{LogLine}
 use Rattle.console_input.specs.declared.fault.ReadFault.{ReadFault}
 use Rattle.kept_lines.specs.declared.range.SerialRange.{SerialRange}
-use Rattle.kept_range.specs.declared.taken.Taken.{Taken}
-use Rattle.kept_range.specs.declared.taken.Taken.TheVariants.{NoneInForce}
+use Rattle.kept_host.specs.declared.range.taken.Taken.{Taken}
+use Rattle.kept_host.specs.declared.range.taken.Taken.TheVariants.{NoneInForce}
 use Rattle.kept_host.specs.Asks.{only_ask}
 use Rattle.kept_host.specs.HostTerms.{host_terms}
-use Rattle.kept_range.specs.Ranges.{TakesOpened}
+use Rattle.kept_host.specs.Ranges.{TakesOpened}
 use Rattle.kept_lines.specs.declared.databases.Database.{Database}
 use Rattle.console_script.specs.Host.{device_names, limits}
-use Rattle.kept_range.specs.Taking.{counts_taken}
+use Rattle.kept_host.specs.Taking.{counts_taken}
 use Rattle.bpfcon.specs.Book.{IsScriptAsked, RunsOn, RanOn, LooksAnew, LooksOn, LogsOn, Refuses, TookAnew, TakesOn, DidLine}
 
 module _ (may_open : List ℕ → Database → Type 0) (may_read : List ℕ → ℕ → Result (List ℕ) ReadFault → Type 0) (old new : Option (List ℕ)) (file : List ℕ) where

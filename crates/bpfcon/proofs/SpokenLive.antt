@@ -27,7 +27,7 @@ use Rattle.console_looks.specs.declared.shown.Showing.{Showing}
 use Rattle.thread_asides.specs.Looked.{ShownAt}
 use Rattle.console_talk.specs.Talk.{said, Asks, looks, Ends}
 use Rattle.bpfcon.specs.LiveTalk.{ShowsAt, TellsLookAt, IsAnsweredLive, GoesLive, HasComeLive}
-use Rattle.console_talk.proofs.Spoken.{gave_none, gave_more}
+use Rattle.console_talk.proofs.Spoken.{gave_none, come_on}
 
 -- what holds in any case holds if a call came to its end
 pub whenever : {T E P : Type 0} (r : Result T E) → P → IfOk r (λ _. P)
@@ -67,9 +67,5 @@ module _ {K S : Type 0} {g : Ghosts PlainBook PlainEvent Answer} (gives : S → 
       → HasComeLive gives kind named desk traffic most input from before next to behind
   come_live_more left next mid to between behind files given line after come read drops some cut goes_on most' same goes =
       let it = said line files in
-      record {
-        said = it ∷ come.said;
-        went = record { mid = (mid, between); earlier = come.went; last = subst (λ m. GoesLive gives kind named desk traffic m it mid between to behind) same goes };
-        gave = gave_more input left next come.said it given after come.gave read drops some cut;
-        none_ends = (goes_on, come.none_ends);
-      }
+      come_on (λ it (p q : Footing S g × Summary). GoesLive gives kind named desk traffic most it p.0 p.1 q.0 q.1) Dialogue input (from, before) left next (mid, between) (to, behind) it given after come read drops some cut goes_on
+      (subst (λ m. GoesLive gives kind named desk traffic m it mid between to behind) same goes)

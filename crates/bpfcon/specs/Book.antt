@@ -35,13 +35,13 @@ use Rattle.kept_log.specs.LogGrammar.{log_line_in}
 use Rattle.kept_log.specs.declared.line.LogLine.{LogLine}
 use Rattle.kept_log.specs.declared.line.LogLine.TheVariants.{Asks, Wrong}
 use Rattle.kept_lines.specs.RangeGrammar.{range_in}
-use Rattle.kept_range.specs.Taking.{ComesTo, counts_taken}
+use Rattle.kept_host.specs.Taking.{ComesTo, counts_taken}
 use Rattle.kept_lines.specs.declared.range.SerialRange.{SerialRange}
-use Rattle.kept_range.specs.declared.taken.Taken.{Taken}
-use Rattle.kept_range.specs.declared.taken.Taken.TheVariants.{NoneInForce}
+use Rattle.kept_host.specs.declared.range.taken.Taken.{Taken}
+use Rattle.kept_host.specs.declared.range.taken.Taken.TheVariants.{NoneInForce}
 use Rattle.kept_host.specs.Logs.{LogsOpened}
 use Rattle.kept_host.specs.Looks.{LooksAt, LooksFront, LooksOpened}
-use Rattle.kept_range.specs.Ranges.{TakesOpened}
+use Rattle.kept_host.specs.Ranges.{TakesOpened}
 use Rattle.kept_host.specs.Runs.{RunsOpened}
 use Rattle.kept_host.specs.Talks.{TalksOpened}
 use Rattle.kept_lines.specs.declared.databases.Database.{Database}

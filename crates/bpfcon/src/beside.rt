@@ -91,16 +91,12 @@ impl<R: FileReader + Eprint + AllocGlobal, W: Output> Asides<HostKind, W> for Be
 
     fn before(&mut self, book: &Book<HostKind>, text: &[u8]) {
         match self.origin {
-            Origin::Script => {}
-            Origin::Line => {
-                self.turning = Turning::before(self.rt.alloc(), book, text);
-                self.range = RangeTurning::before(self.rt.alloc(), book, text);
-            }
-            Origin::Dialogue => {
-                tell_held(self.rt, book, text);
-                self.turning = Turning::before(self.rt.alloc(), book, text);
-            }
+            Origin::Script => return,
+            Origin::Line => {}
+            Origin::Dialogue => tell_held(self.rt, book, text),
         }
+        self.turning = Turning::before(self.rt.alloc(), book, text);
+        self.range = RangeTurning::before(self.rt.alloc(), book, text);
     }
 
     fn turned(&mut self, book: &Book<HostKind>) {

@@ -25,8 +25,9 @@ pub const HELP: &str =
 -w SECONDS, before or after -b FILE, waits so long if another process has FILE.
 If there is no -b, BPFCON_BOOK in the environment names FILE, but for bpfcon alone,
 live, help and version.
-One command may also be journal log [N], which tells what was done to the host in FILE, or
-journal without FIRST LAST, which takes out each change from serial FIRST to LAST, or none.
+One command may also be journal log [N], which tells what was done to the host in FILE. A command
+or a line of shell may be journal without FIRST LAST, which takes out each change from serial
+FIRST to LAST, or none.
 
 The options of live, before its two files, each with its default:
   --workers N                  N threads serve frames, 1 to 64 (2)

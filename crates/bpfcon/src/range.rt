@@ -1,7 +1,7 @@
 //! A range of changes taken out of the book in a file, for the line that spells it.
 
 ghost use Rattle.std.specs.Prelude.{IfOk, IfErr, string_bytes};
-ghost use Rattle.kept_range.specs.Ranges.{TakesInFile};
+ghost use Rattle.kept_host.specs.Ranges.{TakesInFile};
 ghost use Rattle.bpfcon.specs.Book.{TakesOn};
 ghost use Rattle.bpfcon.specs.Ends.{EndsBook};
 
@@ -13,8 +13,7 @@ use console_hint::advice;
 use console_input::FileReader;
 use console_script::Summary;
 use console_text::Output;
-use kept_host::{Databases, InFileFault, SerialRange, Terms, host_terms};
-use kept_range::{Taken, take_in_file};
+use kept_host::{Databases, InFileFault, SerialRange, Taken, Terms, host_terms, take_in_file};
 use std::time::Clock;
 
 // Takes the range that a line spells out of the book in the file of this path.

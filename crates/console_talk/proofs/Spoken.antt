@@ -28,7 +28,7 @@ use Rattle.console_input.specs.declared.source.TheConstants.{MOST_SCRIPT}
 use Rattle.console_looks.specs.declared.look.Look.{Look}
 use Rattle.console_talk.specs.declared.manner.Manner.{Manner}
 use Rattle.console_talk.specs.declared.manner.Manner.TheVariants.{Script, Dialogue}
-use Rattle.console_talk.specs.Talk.{Said, said, Standing, Place, place, silent, before, behind, HasFirst, Asks, looks, TellsLook, IsAnswered, Goes, GoesAt, AllGo, lines_then, Gave, Ends, HasCome, MayStopAt, MayStop, TookAtMost, Talked, with_boxes, front, IsWhole}
+use Rattle.console_talk.specs.Talk.{Said, said, Standing, Place, place, silent, before, behind, HasFirst, Asks, looks, TellsLook, IsAnswered, Goes, GoesAt, AllGo, lines_then, Gave, Ends, HasComeTo, HasCome, MayStopAt, MayStop, TookAtMost, Talked, with_boxes, front, IsWhole}
 
 -- ---- the first line of a text is that of its bytes through the first line feed
 lines_lf : (byte : ℕ) (text : List ℕ) → (byte == 10) ≡ true → lines_of (byte ∷ text) ≡ [] ∷ lines_of text
@@ -209,6 +209,26 @@ took None left still takes = tt
 took (Some text) None still takes = absurd takes
 took (Some text) (Some left) still takes = omega (arith, takes)
 
+-- ---- lines that go one after the other
+-- one more
+pub come_on : {P : Type 0} (goes : Said → P → P → Type 0) (manner : Manner) (input : Option (List ℕ)) (from : P) (left next : Option (List ℕ)) (mid to : P) (it : Said) (given after : List ℕ) → HasComeTo goes manner input from left mid
+    → IfSome left (λ text. given ≡ take_through 10 text) → DropsThrough left next 10 → 0 < length given → lines_of given ≡ it.line ∷ lines_of after → ¬ (Ends manner it.line) → goes it mid to → HasComeTo goes manner input from next to
+come_on goes manner input from left next mid to it given after come read drops some cut goes_on went = record {
+  said = it ∷ come.said;
+  went = record { mid = mid; earlier = come.went; last = went };
+  gave = gave_more input left next come.said it given after come.gave read drops some cut;
+  none_ends = (goes_on, come.none_ends);
+}
+
+-- if each that goes one way goes another way too, from and to what stands for its places, so do all
+module _ {P Q : Type 0} (goes : Said → P → P → Type 0) (other : Said → Q → Q → Type 0) (f : P → Q) (implies : (it : Said) (from to : P) → goes it from to → other it (f from) (f to)) where
+  all_go_by : (said : List Said) (from to : P) → AllGo goes said from to → AllGo other said (f from) (f to)
+  all_go_by [] from to it = ap f it
+  all_go_by (last ∷ earlier) from to it = record { mid = f it.mid; earlier = all_go_by earlier from it.mid it.earlier; last = implies last it.mid to it.last }
+
+  pub come_by : (manner : Manner) (input : Option (List ℕ)) (from : P) (left : Option (List ℕ)) (to : P) → HasComeTo goes manner input from left to → HasComeTo other manner input (f from) left (f to)
+  come_by manner input from left to it = record { said = it.said; went = all_go_by it.said from to it.went; gave = it.gave; none_ends = it.none_ends }
+
 -- ---- a line more
 -- steps after which nothing more was written
 pub leads_kept : {S K : Type 0} (gives : S → MapAttr → Result K NoBox → S → Type 0) (seen : K → Seen) (files : List FileText) {a : Option Mishap} (from to : S) (s end : Session) (old mid new : Option (List ℕ))
@@ -248,18 +268,12 @@ module _ {S K : Type 0} (gives : S → MapAttr → Result K NoBox → S → Type
       (given line after : List ℕ) → HasCome (AreSupplied gives seen) named manner input b from old left between at mid → IfSome left (λ text. given ≡ take_through 10 text) → DropsThrough left next 10 → 0 < length given
       → lines_of given ≡ line ∷ lines_of after → ¬ (Ends manner line) → Goes (AreSupplied gives seen) named manner (said line files) between at mid to end new
       → HasCome (AreSupplied gives seen) named manner input b from old next to end new
-  come_more manner input b from old left next between to at end mid new files given line after come read drops some cut goes_on goes =
-      let it : Said = said line files in
-      record {
-        said = it ∷ come.said;
-        went = record { mid = place between at mid; earlier = come.went; last = goes };
-        gave = gave_more input left next come.said it given after come.gave read drops some cut;
-        none_ends = (goes_on, come.none_ends);
-      }
+  come_more manner input b from old left next between to at end mid new files given line after =
+      come_on (GoesAt (AreSupplied gives seen) named manner) manner input (place from (silent b) old) left next (place between at mid) (place to end new) (said line files) given after
 
 -- ---- if what supplied its boxes implies what holds of them
 module _ {S : Type 0} (P : S → List Step → S → Type 0) (Q : List Step → Type 0) (named : List ℕ → List FileText → Type 0) (implies : (from : S) (run : List Step) (to : S) → P from run to → Q run) where
-  goes_so : (manner : Manner) (it : Said) (from : S) (at : Standing) (old : Option (List ℕ)) (to : S) (end : Standing) (new : Option (List ℕ)) → Goes P named manner it from at old to end new → Goes (with_boxes Q) named manner it tt at old tt end new
+  pub goes_so : (manner : Manner) (it : Said) (from : S) (at : Standing) (old : Option (List ℕ)) (to : S) (end : Standing) (new : Option (List ℕ)) → Goes P named manner it from at old to end new → Goes (with_boxes Q) named manner it tt at old tt end new
   goes_so manner it from at old to end new (inl helped) = inl (record { asks = helped.asks; boxes = refl; is = helped.is; written = helped.written })
   goes_so manner it from at old to end new (inr (inl looked)) =
       inr (inl (record { asks_not = looked.asks_not; look = looked.look; looks_so = looked.looks_so; boxes = refl; is = looked.is; tells = looked.tells }))
@@ -276,22 +290,11 @@ module _ {S : Type 0} (P : S → List Step → S → Type 0) (Q : List Step → 
     };
   }))
 
-  all_go_so : (manner : Manner) (said : List Said) (from to : Place S) → AllGo (GoesAt P named manner) said from to → AllGo (GoesAt (with_boxes Q) named manner) said (place tt from.at from.text) (place tt to.at to.text)
-  all_go_so manner [] from to it = ap (λ (p : Place S). place tt p.at p.text) it
-  all_go_so manner (last ∷ earlier) from to it = record {
-    mid = place tt it.mid.at it.mid.text;
-    earlier = all_go_so manner earlier from it.mid it.earlier;
-    last = goes_so manner last it.mid.boxes it.mid.at it.mid.text to.boxes to.at to.text it.last;
-  }
-
   pub come_so : (manner : Manner) (input : Option (List ℕ)) (b : PlainBook) (from : S) (old left : Option (List ℕ)) (to : S) (at : Standing) (new : Option (List ℕ))
       → HasCome P named manner input b from old left to at new → HasCome (with_boxes Q) named manner input b tt old left tt at new
-  come_so manner input b from old left to at new it = record {
-    said = it.said;
-    went = all_go_so manner it.said (place from (silent b) old) (place to at new) it.went;
-    gave = it.gave;
-    none_ends = it.none_ends;
-  }
+  come_so manner input b from old left to at new =
+      come_by (GoesAt P named manner) (GoesAt (with_boxes Q) named manner) (λ (p : Place S). place tt p.at p.text) (λ it from to. goes_so manner it from.boxes from.at from.text to.boxes to.at to.text) manner input
+      (place from (silent b) old) left (place to at new)
 
   pub talked_so : (manner : Manner) (input : Option (List ℕ)) (b : PlainBook) (from : S) (old : Option (List ℕ)) (book : PlainBook) (to : S) (new : Option (List ℕ)) (summary : Summary)
       → Talked P named manner input b from old book to new summary → Talked (with_boxes Q) named manner input b tt old book tt new summary

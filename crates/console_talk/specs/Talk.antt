@@ -1,5 +1,5 @@
 -- A talk: lines that are answered one by one, each when it is given.
-use Rattle.std.specs.Prelude.{◌≡◌, ◌⊎◌, ◌≤◌, ℕ, ◌+◌, List, [], ◌∷◌, length, take, Option, Some, None, IfSome, Result, Ok, option_map, ⊤, codes}
+use Rattle.std.specs.Prelude.{◌≡◌, ◌⊎◌, ◌≤◌, ℕ, ◌+◌, List, [], ◌∷◌, length, take, Option, Some, None, IfSome, option_map, ⊤, codes}
 use Rattle.std.specs.Io.KnownBytes.{Appends}
 use Rattle.journal_model.specs.Book.{PlainBook}
 use Rattle.console_operand.specs.Line.{lines_of}

@@ -1,3 +1,9 @@
 mod Looking
 mod Running
+pub mod TakingRead
+pub mod TakingSteps
+pub mod Together
+pub mod RangeKept
+pub mod OnBook
+mod RangeTalk
 mod Talking

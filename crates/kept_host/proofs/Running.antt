@@ -4,13 +4,12 @@ use Rattle.sqlite.specs.State.{State, HasCleanDisk}
 use Rattle.journal_model.specs.Book.{PlainBook}
 use Rattle.bt_journal.specs.BookView.{BookView}
 use Rattle.bt_syntax.specs.declared.files.FileText.{FileText}
-use Rattle.console_script.specs.Transcript.{Session, Step, RanAll}
+use Rattle.console_script.specs.Transcript.{Step, RanAll}
 use Rattle.console_script.specs.declared.summary.Summary.{Summary}
 use Rattle.console_script.specs.Made.{AllGetNew}
 use Rattle.kept_ledger.specs.TermsView.{PlainTerms}
 use Rattle.kept_lines.specs.Kept.{IsOnDisk, Stops, script_on}
 use Rattle.kept_lines.specs.declared.fault.LinesFault.{LinesFault}
-use Rattle.kept_lines.specs.declared.fault.LinesFault.TheVariants.{CannotKeep, Write}
 use Rattle.kept_lines.specs.declared.fault.KeptFault.{KeptFault}
 use Rattle.kept_lines.specs.declared.fault.KeptFault.TheVariants.{Open, Make, Lines}
 use Rattle.kept_lines.specs.Begun.{WasReady, HasBook, BeginsOn}

@@ -4,3 +4,5 @@ pub mod Logs
 pub mod Looks
 pub mod Runs
 pub mod Talks
+pub mod Taking
+pub mod Ranges

@@ -1,6 +1,8 @@
 //! Why lines on the host that a file keeps were not run to their end.
 
+use crate::range::RangeFault;
 use console_input::ReadFault;
+use kept_file::OpenFault;
 use kept_lines::{InFileFault, LinesFault};
 use kept_log::LogFault;
 use sqlite::Error;
@@ -27,5 +29,21 @@ pub enum TalkFault {
 #[derive(Clone, Copy)]
 pub(crate) enum Broken {
     Lines(LinesFault),
+    Open(OpenFault),
     Unread(ReadFault),
+}
+
+impl Broken {
+    ghost use Rattle.std.specs.Prelude.{◌≡◌};
+    ghost use Rattle.kept_host.specs.Talks.{of_range};
+
+    /// Why a range was not answered.
+    pub(crate) fn of_range(fault: RangeFault) -> Broken
+        ensures { result ≡ of_range fault }
+    {
+        match fault {
+            RangeFault::Lines(fault) => Broken::Lines(fault),
+            RangeFault::Open(fault) => Broken::Open(fault),
+        }
+    }
 }

@@ -2,17 +2,20 @@
 //! they did is kept before they are answered.
 //!
 //! [`run_kept`] runs a script so on a connection to a database, and [`run_in_file`] on the file of a path; [`talk_kept`] and
-//! [`talk_in_file`] answer the lines of an input one by one, and [`look_kept`] and [`look_in_file`] a line that only looks into the
-//! journal. [`log_kept`] and [`log_in_file`] tell what was done to the book, event by event. Where files are opened is a trait's,
-//! [`Databases`], of which contracts say what may be found there; the runtime is one. What is told beside the answers is another's,
-//! [`Asides`]. [`only_ask`] tells whether lines only ask, and so need no file.
+//! [`talk_in_file`] answer the lines of an input one by one, [`take_kept`] and [`take_in_file`] a line that takes a range of changes
+//! out, and [`look_kept`] and [`look_in_file`] one that only looks into the journal. [`log_kept`] and [`log_in_file`] tell what was
+//! done to the book, event by event. Where files are opened is a trait's, [`Databases`], of which contracts say what may be found
+//! there; the runtime is one. What is told beside the answers is another's, [`Asides`]. [`only_ask`] tells whether lines only ask, and
+//! so need no file.
 #![tactic(auto)]
 
 mod asks;
 mod fault;
 mod file;
+pub mod laws;
 mod log;
 mod look;
+mod range;
 mod run;
 mod talk;
 mod terms;
@@ -28,5 +31,6 @@ pub use kept_lines::{
 pub use kept_log::{LogLine, log_line};
 pub use log::log_kept;
 pub use look::{look_kept, look_now};
+pub use range::{RangeFault, Taken, take_in_file, take_kept, take_range};
 pub use run::{run_kept, talk_kept};
 pub use terms::host_terms;

@@ -15,7 +15,7 @@ use console_script::{HostKind, HostSupply, Summary};
 use console_talk::Manner;
 use console_text::Output;
 use kept_file::Terms;
-use kept_lines::{Asides, InFileFault, KeptFault, begin, keep_lines};
+use kept_lines::{Asides, HostBoxes, InFileFault, KeptFault, begin, keep_lines};
 use sqlite::{Alter, Connection};
 use std::alloc::Global;
 use std::io::BufRead;
@@ -87,19 +87,20 @@ fn fault_of(broken: Broken) -> TalkFault
 {
     match broken {
         Broken::Lines(fault) => TalkFault::InFile(InFileFault::Kept(KeptFault::Lines(fault))),
+        Broken::Open(fault) => TalkFault::InFile(InFileFault::Kept(KeptFault::Open(fault))),
         Broken::Unread(fault) => TalkFault::Unread(fault),
     }
 }
 
 /// Answers the lines of an input one by one on the book that a database keeps, up to the end of the input or to a `quit` or `exit`,
-/// with a new map for each that they make. In a database that has no table a book of these terms is made first. What a line did is
-/// kept before it is answered. Lines are asked for on standard error. The book in memory is given up with the process, and the
-/// connection is to be closed.
+/// with a new map for each that they make; a line that spells a range takes its changes out, as [`crate::take_range`] does. In a database that
+/// has no table a book of these terms is made first. What a line did is kept before it is answered. Lines are asked for on standard
+/// error. The book in memory is given up with the process, and the connection is to be closed.
 ///
 /// # Errors
-/// Open and Make of [`begin`], after which no line was read; Unread if a read fails or more than 16,777,216 bytes come, and if
-/// there is no memory for a line or a file; Lines if what a line did is not kept, or not answered. What was answered before is on
-/// the disk.
+/// Open and Make of [`begin`], after which no line was read, and Open of [`crate::take_range`]; Unread if a read fails or more than
+/// 16,777,216 bytes come, and if there is no memory for a line or a file; Lines if what a line did is not kept, or not answered. What
+/// was answered before is on the disk.
 pub fn talk_kept<
     D: Alter,
     R: FileReader + Terminal + Eprint + Clock + AllocGlobal,
@@ -122,8 +123,18 @@ pub fn talk_kept<
         Err(fault) => return Err(TalkFault::InFile(InFileFault::Kept(fault))),
     };
     let mut supply = HostSupply::new(alloc);
+    let mut boxes = HostBoxes::new(alloc);
     Manner::Dialogue.greet(rt);
-    let talked = keep_talk(rt, conn, &mut book, &mut supply, asides, input, out);
+    let talked = keep_talk(
+        rt,
+        conn,
+        &mut book,
+        &mut supply,
+        &mut boxes,
+        asides,
+        input,
+        out,
+    );
     let _book = ManuallyDrop::new(book);
     match talked {
         Ok(summary) => Ok(summary),

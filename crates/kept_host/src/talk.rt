@@ -8,17 +8,18 @@ ghost use Rattle.bt_syntax.specs.declared.files.FileText.{FileText as Named};
 ghost use Rattle.console_input.specs.Named.{AreFilesOf};
 ghost use Rattle.console_script.specs.Frames.{console_of};
 ghost use Rattle.console_script.specs.Supplied.{AreSupplied};
-ghost use Rattle.console_talk.specs.Talk.{standing, said, TellsLook, IsAnswered, Goes, Talked};
+ghost use Rattle.console_talk.specs.Talk.{standing, said, place, silent, TellsLook, IsAnswered, Goes};
 ghost use Rattle.console_talk.specs.declared.manner.Manner.TheVariants.{Dialogue};
 ghost use Rattle.kept_file.specs.Keeps.{HoldsOne};
 ghost use Rattle.kept_ledger.specs.TermsView.{PlainTerms};
 ghost use Rattle.kept_ledger.specs.Ledger.{LeavesOnly};
 ghost use Rattle.kept_lines.specs.Kept.{IsOnDisk};
 ghost use Rattle.kept_host.specs.Looks.{LooksFront};
-ghost use Rattle.kept_host.specs.Talks.{IsPart, IsTalkFront};
+ghost use Rattle.kept_host.specs.Talks.{StaysOnDisk, TookRange, GoesKept, TalkedThrough, IsRangePart, IsPart, IsTalkFront};
 
 use crate::fault::Broken;
 use crate::look::look_now;
+use crate::range::{take_range, told as told_range};
 use bt_journal::Book;
 use bt_mapkind::MapKind;
 use bt_syntax::{FileText, first_line};
@@ -27,7 +28,10 @@ use console_looks::Look;
 use console_script::{Summary, Supply};
 use console_talk::{Manner, read_line};
 use console_text::Output;
-use kept_lines::{Asides, Hints, KeptDialogue, LinesFault, Wrong, milliseconds, wrong_in};
+use kept_file::MakeBox;
+use kept_lines::{
+    Asides, Hints, KeptDialogue, LinesFault, SerialRange, Wrong, milliseconds, range_of, wrong_in,
+};
 use sqlite::{Alter, Connection};
 use std::io::BufRead;
 use std::time::Clock;
@@ -131,7 +135,7 @@ fn told_look<K: MapKind, A: Asides<K, W>, W: Output>(
 
 // Gives help if a line asks for it, looks into the journal if it asks for that, and else keeps and answers the line, and tells what
 // there is to tell beside its answer.
-fn hear<
+fn hear_line<
     D: Alter,
     R: FileReader + Clock + AllocGlobal,
     K: MapKind,
@@ -174,17 +178,103 @@ fn hear<
     }
 }
 
+// Takes the range of changes out that a line spells, or none of them, and has the answer stand on the output when it returns. Then it
+// tells what there is to tell beside the answer.
+fn take_now<
+    D: Alter,
+    R: Clock + AllocGlobal,
+    K: MapKind,
+    B: MakeBox<K>,
+    A: Asides<K, W>,
+    W: Output,
+>(
+    rt: &R,
+    conn: &mut Connection<D>,
+    book: &mut Book<K>,
+    dialogue: &mut KeptDialogue,
+    boxes: &mut B,
+    asides: &mut A,
+    number: u64,
+    line: &[u8],
+    range: SerialRange,
+    out: &mut W,
+) -> Result<(), Broken>
+    ensures took { OnOk result (TookRange {S = Unit {0}} (StaysOnDisk (state D.Store conn.old) (state D.Store conn.new) book.old.plain) range
+        (place tt (standing (console_of book.old.plain dialogue.old.runs) dialogue.old.summary) (W.contents out.old))
+        (place tt (standing (console_of book.new.plain dialogue.new.runs) dialogue.new.summary) (W.contents out.new))) }
+    ensures clean { HasCleanDisk (state D.Store conn.new) → HasCleanDisk (state D.Store conn.old) }
+    ensures kept { HasCleanDisk (state D.Store conn.new) → (t : PlainTerms) → IsOnDisk t (state D.Store conn.old) book.old.plain
+        → OnOk result (IsOnDisk t (state D.Store conn.new) book.new.plain) }
+    ensures part { OnErr result (HasCleanDisk (state D.Store conn.new) → (t : PlainTerms) → IsOnDisk t (state D.Store conn.old) book.old.plain
+        → LeavesOnly (HoldsOne t (IsRangePart range book.old.plain (W.contents out.old) (W.contents out.new))) (state D.Store conn.new)) }
+{
+    asides.before(book, line);
+    let (alloc, time) = (rt.alloc(), milliseconds(rt));
+    let taken = match take_range(alloc, conn, time, book, boxes, range, out) {
+        Ok(taken) => taken,
+        Err(fault) => return Err(Broken::of_range(fault)),
+    };
+    match out.flush_all() {
+        Ok(()) => {}
+        Err(_) => return Err(Broken::Lines(LinesFault::Write)),
+    }
+    dialogue.count(taken.counts());
+    told_range(asides, book, number, line, taken, out);
+    Ok(())
+}
+
+// Takes a range of changes out if a line spells one, and else does what the line asks.
+fn hear<
+    D: Alter,
+    R: FileReader + Clock + AllocGlobal,
+    K: MapKind,
+    S: Supply<K>,
+    B: MakeBox<K>,
+    A: Asides<K, W>,
+    W: Output,
+>(
+    rt: &R,
+    conn: &mut Connection<D>,
+    book: &mut Book<K>,
+    dialogue: &mut KeptDialogue,
+    supply: &mut S,
+    boxes: &mut B,
+    asides: &mut A,
+    number: u64,
+    line: &[u8],
+    out: &mut W,
+) -> Result<(), Broken>
+    ensures goes { IfOk result (λ _. (files : List Named) × GoesKept (AreSupplied S.gives K.seen) (AreFilesOf (R.may_read rt.now)) (StaysOnDisk (state D.Store conn.old) (state D.Store conn.new) book.old.plain) (said line.now files)
+        (place supply.old (standing (console_of book.old.plain dialogue.old.runs) dialogue.old.summary) (W.contents out.old))
+        (place supply.new (standing (console_of book.new.plain dialogue.new.runs) dialogue.new.summary) (W.contents out.new))) }
+    ensures clean { HasCleanDisk (state D.Store conn.new) → HasCleanDisk (state D.Store conn.old) }
+    ensures kept { HasCleanDisk (state D.Store conn.new) → (t : PlainTerms) → IsOnDisk t (state D.Store conn.old) book.old.plain
+        → OnOk result (IsOnDisk t (state D.Store conn.new) book.new.plain) }
+    ensures part { OnErr result (HasCleanDisk (state D.Store conn.new) → (t : PlainTerms) → IsOnDisk t (state D.Store conn.old) book.old.plain
+        → LeavesOnly (HoldsOne t (IsPart (AreFilesOf (R.may_read rt.now)) (standing (console_of book.old.plain dialogue.old.runs) dialogue.old.summary) line.now (W.contents out.old) (W.contents out.new)))
+        (state D.Store conn.new)) }
+{
+    match range_of(line) {
+        Some(range) => take_now(
+            rt, conn, book, dialogue, boxes, asides, number, line, range, out,
+        ),
+        None => hear_line(rt, conn, book, dialogue, supply, asides, number, line, out),
+    }
+}
+
 /// Answers the lines of an input one by one on a kept book, up to its end or to a `quit` or `exit`. The files that a line names are
-/// read when it is given. It is done, what it did is on the disk, and then it is answered.
+/// read when it is given. It is done, what it did is on the disk, and then it is answered. After a range that is refused the book is
+/// opened again if it was ahead of its database, with maps from `boxes`.
 ///
 /// # Errors
-/// Unread if a read fails or more than 16,777,216 bytes come, and if there is no memory for a line or a file; and Lines, as a script
-/// has them. What was answered before stands on the output, and is on the disk.
+/// Unread if a read fails or more than 16,777,216 bytes come, and if there is no memory for a line or a file; Lines, as a script
+/// has them; and Open if the book is not opened again. What was answered before stands on the output, and is on the disk.
 pub(crate) fn keep_talk<
     D: Alter,
     R: FileReader + Terminal + Eprint + Clock + AllocGlobal,
     K: MapKind,
     S: Supply<K>,
+    B: MakeBox<K>,
     A: Asides<K, W>,
     I: BufRead,
     W: Output,
@@ -193,17 +283,18 @@ pub(crate) fn keep_talk<
     conn: &mut Connection<D>,
     book: &mut Book<K>,
     supply: &mut S,
+    boxes: &mut B,
     asides: &mut A,
     input: &mut I,
     out: &mut W,
 ) -> Result<Summary, Broken>
-    ensures talked { IfOk result (λ summary. Talked (AreSupplied S.gives K.seen) (AreFilesOf (R.may_read rt.now)) Dialogue (I.remaining input.old) book.old.plain supply.old (W.contents out.old)
-        book.new.plain supply.new (W.contents out.new) summary) }
+    ensures talked { IfOk result (TalkedThrough (AreSupplied S.gives K.seen) (AreFilesOf (R.may_read rt.now)) (StaysOnDisk (state D.Store conn.old) (state D.Store conn.new) book.old.plain) (I.remaining input.old)
+        (place supply.old (silent book.old.plain) (W.contents out.old)) book.new.plain supply.new (W.contents out.new)) }
     ensures clean { HasCleanDisk (state D.Store conn.new) → HasCleanDisk (state D.Store conn.old) }
     ensures kept { HasCleanDisk (state D.Store conn.new) → (t : PlainTerms) → IsOnDisk t (state D.Store conn.old) book.old.plain
         → OnOk result (IsOnDisk t (state D.Store conn.new) book.new.plain) }
     ensures left { OnErr result (HasCleanDisk (state D.Store conn.new) → (t : PlainTerms) → IsOnDisk t (state D.Store conn.old) book.old.plain
-        → LeavesOnly (HoldsOne t (IsTalkFront (AreSupplied S.gives K.seen) (AreFilesOf (R.may_read rt.now)) (I.remaining input.old) book.old.plain supply.old (W.contents out.old) (W.contents out.new)))
+        → LeavesOnly (HoldsOne t (IsTalkFront (AreSupplied S.gives K.seen) (AreFilesOf (R.may_read rt.now)) (I.remaining input.old) (place supply.old (silent book.old.plain) (W.contents out.old)) (W.contents out.new)))
         (state D.Store conn.new)) }
 {
     let mut dialogue = KeptDialogue::new(rt.alloc());
@@ -231,6 +322,7 @@ pub(crate) fn keep_talk<
             book,
             &mut dialogue,
             supply,
+            boxes,
             asides,
             number,
             line,

@@ -35,6 +35,7 @@ impl KeptDialogue {
     ghost use Rattle.console_script.specs.Frames.{console_of};
     ghost use Rattle.console_script.specs.Dialogue.{unspoken};
     ghost use Rattle.console_script.specs.Running.{LeadsOn};
+    ghost use Rattle.console_script.specs.Tallies.{both_counts};
     ghost use Rattle.console_script.specs.Transcript.{session_of};
     ghost use Rattle.kept_ledger.specs.TermsView.{PlainTerms};
     ghost use Rattle.kept_lines.specs.Kept.{IsOnDisk, AddsAt, Stops};
@@ -64,6 +65,14 @@ impl KeptDialogue {
         ensures { result.now ≡ self.now.runs }
     {
         &self.runs
+    }
+
+    /// Counts lines that were answered besides, as those that a range comes to.
+    pub fn count(&mut self, lines: Summary)
+        ensures summary { self.new.summary ≡ both_counts self.old.summary lines }
+        ensures runs { self.new.runs ≡ self.old.runs }
+    {
+        self.summary = self.summary.plus(lines);
     }
 
     /// Runs one line, without its line feed, on a kept book, as a script that has come to it does: it is done, what it did is on

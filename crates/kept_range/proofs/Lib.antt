@@ -1,5 +1,0 @@
-pub mod TakingRead
-pub mod TakingSteps
-pub mod Together
-pub mod RangeKept
-pub mod OnBook
