@@ -23,7 +23,7 @@ tells_so (DryUndo mark) b out_old out_new summary it = it.0
 module _ (terms : PlainTerms) (look : Look) (old : State) (out_old : Option (List ℕ)) where
   -- nothing was looked at
   pub not_looked : (new : State) (fault : KeptFault) → BeginsOn terms old new (Err fault) → LooksKept terms look old new out_old out_old (Err fault)
-  not_looked new (Open why) it = record { unwritten = refl; disk = it.0 }
+  not_looked new (Open why) it = (record { unwritten = refl; disk = it.0 }, it.1)
   not_looked new (Make error) it = record { unwritten = refl; disk = it }
   not_looked new (Lines why) it = absurd it
 

@@ -40,7 +40,7 @@ stops_began range b Before Began new out_old out_new began (taking.Open why) it 
 module _ (terms : PlainTerms) (range : SerialRange) (old : State) (out_old : Option (List ℕ)) where
   -- nothing was done
   pub not_taken : (new : State) (fault : KeptFault) → BeginsOn terms old new (Err fault) → TakesKept terms range old new out_old out_old (Err fault)
-  not_taken new (Open why) it = inl (record { unwritten = refl; disk = it.0 })
+  not_taken new (Open why) it = inl (record { unwritten = refl; disk = it.0 }, it.1)
   not_taken new (Make error) it = record { unwritten = refl; disk = it }
   not_taken new (Lines why) it = absurd it
 

@@ -19,7 +19,7 @@ use Rattle.kept_host.specs.Runs.{RunsKept}
 module _ (terms : PlainTerms) (files : List FileText) (script : List ℕ) (old : State) (out_old : Option (List ℕ)) where
   -- no line was run
   pub not_run : (new : State) (fault : KeptFault) → BeginsOn terms old new (Err fault) → RunsKept terms files script old new out_old out_old (Err fault)
-  not_run new (Open why) it = record { unwritten = refl; disk = it.0 }
+  not_run new (Open why) it = (record { unwritten = refl; disk = it.0 }, it.1)
   not_run new (Make error) it = record { unwritten = refl; disk = it }
   not_run new (Lines why) it = absurd it
 

@@ -103,7 +103,7 @@ module _ {S : Type 0} (supplied : S → List Step → S → Type 0) (named : Lis
 module _ (terms : PlainTerms) (may_read : List ℕ → ℕ → Result (List ℕ) ReadFault → Type 0) (input : Option (List ℕ)) (old : State) (out_old : Option (List ℕ)) where
   -- no line was read
   pub not_talked : (new : State) (fault : KeptFault) → BeginsOn terms old new (Err fault) → TalksKept terms may_read input old new out_old out_old (Err (InFile (Kept fault)))
-  not_talked new (Open why) it = inl (record { unwritten = refl; disk = it.0 })
+  not_talked new (Open why) it = inl (record { unwritten = refl; disk = it.0 }, it.1)
   not_talked new (Make error) it = record { unwritten = refl; disk = it }
   not_talked new (Lines why) it = absurd it
 

@@ -13,7 +13,7 @@ use Rattle.console_script.specs.Transcript.{no_counts}
 use Rattle.console_script.specs.declared.summary.Summary.{Summary}
 use Rattle.kept_ledger.specs.TermsView.{PlainTerms}
 use Rattle.kept_lines.specs.Kept.{IsOnDisk}
-use Rattle.kept_lines.specs.Begun.{WasReady, HasBook, IsNotRun}
+use Rattle.kept_lines.specs.Begun.{WasReady, HasBook, IsNotRun, IsNotOpened}
 use Rattle.kept_lines.specs.declared.databases.Database.{Database}
 use Rattle.kept_lines.specs.declared.fault.InFileFault.{InFileFault}
 use Rattle.kept_lines.specs.declared.fault.InFileFault.TheVariants.{Unopened, Kept}
@@ -61,7 +61,7 @@ module _ (terms : PlainTerms) (look : Look) (old new : State) (out_old out_new :
 
   abbrev pub LooksKept : Result Summary KeptFault → Type 0
   LooksKept (Ok summary) = LookedKept summary
-  LooksKept (Err (Open why)) = IsNotRun terms old new out_old out_new
+  LooksKept (Err (Open why)) = IsNotOpened terms old new out_old out_new why
   LooksKept (Err (Make error)) = IsNotRun terms old new out_old out_new
   LooksKept (Err (Lines why)) = LookStops
 

@@ -12,7 +12,7 @@ use Rattle.kept_host.specs.declared.range.fault.RangeFault.{RangeFault}
 use Rattle.kept_host.specs.declared.range.fault.RangeFault.TheVariants as taking
 use Rattle.kept_lines.specs.declared.range.SerialRange.{SerialRange}
 use Rattle.kept_host.specs.declared.range.taken.Taken.{Taken}
-use Rattle.kept_lines.specs.Begun.{WasReady, HasBook, IsNotRun}
+use Rattle.kept_lines.specs.Begun.{WasReady, HasBook, IsNotRun, IsNotOpened}
 use Rattle.kept_lines.specs.declared.databases.Database.{Database}
 use Rattle.kept_lines.specs.declared.fault.InFileFault.{InFileFault}
 use Rattle.kept_lines.specs.declared.fault.InFileFault.TheVariants.{Unopened, Kept}
@@ -52,7 +52,7 @@ module _ (terms : PlainTerms) (range : SerialRange) (old new : State) (out_old o
 
   abbrev pub TakesKept : Result Taken KeptFault → Type 0
   TakesKept (Ok taken) = TookKept taken
-  TakesKept (Err (Open why)) = IsNotRun terms old new out_old out_new ⊎ TakingStops (taking.Open why)
+  TakesKept (Err (Open why)) = IsNotOpened terms old new out_old out_new why ⊎ TakingStops (taking.Open why)
   TakesKept (Err (Make error)) = IsNotRun terms old new out_old out_new
   TakesKept (Err (Lines why)) = TakingStops (taking.Lines why)
 

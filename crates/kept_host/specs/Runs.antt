@@ -10,7 +10,7 @@ use Rattle.console_script.specs.Made.{AllGetNew}
 use Rattle.kept_ledger.specs.TermsView.{PlainTerms}
 use Rattle.kept_lines.specs.Kept.{IsOnDisk, Stops, script_on}
 use Rattle.kept_lines.specs.declared.fault.LinesFault.{LinesFault}
-use Rattle.kept_lines.specs.Begun.{WasReady, HasBook, IsNotRun}
+use Rattle.kept_lines.specs.Begun.{WasReady, HasBook, IsNotRun, IsNotOpened}
 use Rattle.kept_lines.specs.declared.databases.Database.{Database}
 use Rattle.kept_lines.specs.declared.fault.InFileFault.{InFileFault}
 use Rattle.kept_lines.specs.declared.fault.InFileFault.TheVariants.{Unopened, Kept}
@@ -33,7 +33,7 @@ module _ (terms : PlainTerms) (files : List FileText) (script : List ℕ) (old n
 
   abbrev pub RunsKept : Result Summary KeptFault → Type 0
   RunsKept (Ok summary) = RanKept summary
-  RunsKept (Err (Open why)) = IsNotRun terms old new out_old out_new
+  RunsKept (Err (Open why)) = IsNotOpened terms old new out_old out_new why
   RunsKept (Err (Make error)) = IsNotRun terms old new out_old out_new
   RunsKept (Err (Lines why)) = StopsKept why
 

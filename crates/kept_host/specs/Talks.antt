@@ -26,7 +26,7 @@ use Rattle.kept_lines.specs.Kept.{IsOnDisk, WritesSome, IsFront}
 use Rattle.kept_lines.specs.Chosen.{chosen}
 use Rattle.kept_lines.specs.RangeGrammar.{range_in}
 use Rattle.kept_lines.specs.declared.range.SerialRange.{SerialRange}
-use Rattle.kept_lines.specs.Begun.{WasReady, HasBook, IsNotRun}
+use Rattle.kept_lines.specs.Begun.{WasReady, HasBook, IsNotRun, IsNotOpened}
 use Rattle.kept_host.specs.Looks.{LooksFront}
 use Rattle.kept_host.specs.Taking.{AllTaken, ComesTo, UnlessAll, counts_taken}
 use Rattle.kept_host.specs.declared.range.fault.RangeFault.{RangeFault}
@@ -148,7 +148,7 @@ module _ (terms : PlainTerms) (may_read : List ℕ → ℕ → Result (List ℕ)
   abbrev pub TalksKept : Result Summary TalkFault → Type 0
   TalksKept (Ok summary) = TalkedKept summary
   TalksKept (Err (InFile (Unopened error))) = ⊥
-  TalksKept (Err (InFile (Kept (Open why)))) = IsNotRun terms old new out_old out_new ⊎ TalkStops
+  TalksKept (Err (InFile (Kept (Open why)))) = IsNotOpened terms old new out_old out_new why ⊎ TalkStops
   TalksKept (Err (InFile (Kept (Make error)))) = IsNotRun terms old new out_old out_new
   TalksKept (Err (InFile (Kept (Lines why)))) = TalkStops
   TalksKept (Err (Unread why)) = TalkStops

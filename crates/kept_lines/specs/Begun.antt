@@ -10,6 +10,7 @@ use Rattle.kept_ledger.specs.TermsView.{PlainTerms}
 use Rattle.kept_ledger.specs.Ledger.{Entry, IsLedger, IsLedgerOf}
 use Rattle.kept_file.specs.Keeps.{Keeps, HoldsBook, start_of}
 use Rattle.kept_file.specs.Faults.{TellsWhy}
+use Rattle.kept_file.specs.declared.fault.OpenFault.{OpenFault}
 use Rattle.kept_lines.specs.Kept.{IsOnDisk, HasMore}
 use Rattle.kept_lines.specs.declared.fault.KeptFault.{KeptFault}
 use Rattle.kept_lines.specs.declared.fault.KeptFault.TheVariants.{Open, Make, Lines}
@@ -58,3 +59,8 @@ AddsToBook terms time old new = HasCleanDisk new → WasReady old → (t : Plain
 pub record IsNotRun (terms : PlainTerms) (old new : State) (out_old out_new : Option (List ℕ)) : Type 0 where
   pub unwritten : out_new ≡ out_old
   pub disk : IsNotBegun terms old new
+
+-- since the book that the database has was not opened, for this reason
+abbrev pub IsNotOpened : PlainTerms → State → State → Option (List ℕ) → Option (List ℕ) → OpenFault → Type 0
+IsNotOpened terms old new out_old out_new why =
+    IsNotRun terms old new out_old out_new × (HasCleanDisk new → (t : PlainTerms) (events : List KeptEvent) → IsLedger t events old → TellsWhy t events why)

@@ -51,7 +51,7 @@ frames_by all b P Q new out_old out_new (serve.Lines Write) implies it = record 
 module _ (terms : PlainTerms) (files : List FileText) (script : List ℕ) (all : List FrameIn) (old : State) (out_old : Option (List ℕ)) where
   -- no line was run
   pub not_begun : (new : State) (fault : KeptFault) → BeginsOn terms old new (Err fault) → ServesKept terms files script all old new out_old out_old (Err (Script fault))
-  not_begun new (Open why) it = record { unwritten = refl; disk = it.0 }
+  not_begun new (Open why) it = (record { unwritten = refl; disk = it.0 }, it.1)
   not_begun new (Make error) it = record { unwritten = refl; disk = it }
   not_begun new (Lines why) it = absurd it
 

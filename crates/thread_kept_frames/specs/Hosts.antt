@@ -12,7 +12,7 @@ use Rattle.thread_frames.specs.declared.frame.FrameIn.{FrameIn}
 use Rattle.thread_host_run.specs.FramesOf.{AreFramesOf}
 use Rattle.thread_host_run.specs.HostRuns.{AreToldOf}
 use Rattle.kept_ledger.specs.TermsView.{PlainTerms}
-use Rattle.kept_lines.specs.Begun.{WasReady, HasBook, IsNotRun}
+use Rattle.kept_lines.specs.Begun.{WasReady, HasBook, IsNotRun, IsNotOpened}
 use Rattle.kept_lines.specs.Kept.{IsOnDisk, Stops as LinesStop, script_on}
 use Rattle.kept_lines.specs.declared.databases.Database.{Database}
 use Rattle.kept_lines.specs.declared.fault.KeptFault.TheVariants.{Open, Make, Lines}
@@ -67,7 +67,7 @@ module _ (terms : PlainTerms) (files : List FileText) (script : List ℕ) (all :
 
   abbrev pub ServesKept : Result ServedHost HostRunFault → Type 0
   ServesKept (Ok it) = ServedKept it
-  ServesKept (Err (Script (Open why))) = IsNotRun terms old new out_old out_new
+  ServesKept (Err (Script (Open why))) = IsNotOpened terms old new out_old out_new why
   ServesKept (Err (Script (Make error))) = IsNotRun terms old new out_old out_new
   ServesKept (Err (Script (Lines why))) = StopsInScript why
   ServesKept (Err (Frames fault)) = StopsInFrames fault
