@@ -46,15 +46,15 @@ module _ (range : SerialRange) (b : PlainBook) (t : PlainTerms) (s : State) (old
     | inr held ↦ record { book = it.left; is = inr (inl (it.text, it.taken, some_none old new it.text it.unwritten)); holds = held }
   ]
   part_stopped Began clean began (Lines Write) (inl it) db may = record { book = it.left; is = inr (inl (it.text, it.taken, some_front old new it.text it.front)); holds = (it.disk clean t began).leaves db may }
-  part_stopped Began clean began (Lines Write) (inr it) db may = record { book = b; is = inr (inr (refl, (it.fault, some_front old new (fault_text it.fault) it.front))); holds = (it.disk clean t began).leaves db may }
+  part_stopped Began clean began (Lines Write) (inr it) db may = record { book = b; is = inr (inr (refl, (it.fault, it.why, some_front old new (fault_text it.fault) it.front))); holds = (it.disk clean t began).leaves db may }
   part_stopped Began clean began (Open why) it db may = record { book = b; is = inl (refl, it.0); holds = it.1 clean t began db may }
 
   -- all of its answer was written
   pub part_written : (c : PlainBook) (taken : Taken) → ComesTo range b c old new taken → UnlessAll taken (c ≡ b) → IsOnDisk t s c → LeavesOnly (HoldsOne t (IsRangePart range b old new)) s
   part_written c (All count) comes same on db may =
       let (some, count_is, (text, all, wrote)) = comes in record { book = c; is = inr (inl (text, all, some_whole old new text wrote)); holds = on.leaves db may }
-  part_written c NoneInForce comes same on db may = record { book = c; is = inr (inr (same, (NotInForce, some_whole old new (fault_text NotInForce) comes.1))); holds = on.leaves db may }
-  part_written c (Refused fault) comes same on db may = record { book = c; is = inr (inr (same, (fault, some_whole old new (fault_text fault) comes.1))); holds = on.leaves db may }
+  part_written c NoneInForce comes same on db may = record { book = c; is = inr (inr (same, (NotInForce, inl (comes.0, refl), some_whole old new (fault_text NotInForce) comes.1))); holds = on.leaves db may }
+  part_written c (Refused fault) comes same on db may = record { book = c; is = inr (inr (same, (fault, inr comes.0, some_whole old new (fault_text fault) comes.1))); holds = on.leaves db may }
 
 -- so of the line that spells it
 module _ (named : List ℕ → List FileText → Type 0) (at : Standing) (line : List ℕ) (old new : Option (List ℕ)) (range : SerialRange) (spells : range_in (words line) ≡ Some range) where

@@ -81,6 +81,10 @@ pub record OneRefused (serials : List ℕ) (b : PlainBook) (fault : Fault) : Typ
 abbrev pub IsWhy : List ℕ → PlainBook → Fault → Type 0
 IsWhy serials b fault = (fault ≡ NoMemory) ⊎ OneRefused serials b fault
 
+-- or that none of them is in force
+abbrev pub IsNone : SerialRange → PlainBook → Fault → Type 0
+IsNone range b fault = ((chosen range b ≡ []) × (fault ≡ NotInForce)) ⊎ IsWhy (chosen range b) b fault
+
 -- ---- what a range comes to
 -- all are taken out, and what each of their lines answers is written; or none, and one line says why
 abbrev pub ComesTo : SerialRange → PlainBook → PlainBook → Option (List ℕ) → Option (List ℕ) → Taken → Type 0
@@ -125,7 +129,7 @@ module _ (range : SerialRange) (b : PlainBook) (Began : PlainTerms → Type 0) (
   -- none is taken out, and of the line that says why a front was written
   pub record IsUnwrittenRefusal : Type 0 where
     pub fault : Fault
-    pub why : ((chosen range b ≡ []) × (fault ≡ NotInForce)) ⊎ IsWhy (chosen range b) b fault
+    pub why : IsNone range b fault
     pub front : WritesFront out_old out_new (fault_text fault)
     pub disk : HasCleanDisk new → (t : PlainTerms) → Began t → IsOnDisk t new b
 

@@ -28,7 +28,7 @@ use Rattle.kept_lines.specs.RangeGrammar.{range_in}
 use Rattle.kept_lines.specs.declared.range.SerialRange.{SerialRange}
 use Rattle.kept_lines.specs.Begun.{WasReady, HasBook, IsNotRun, IsNotOpened}
 use Rattle.kept_host.specs.Looks.{LooksFront}
-use Rattle.kept_host.specs.Taking.{AllTaken, ComesTo, UnlessAll, counts_taken}
+use Rattle.kept_host.specs.Taking.{AllTaken, IsNone, ComesTo, UnlessAll, counts_taken}
 use Rattle.kept_host.specs.declared.range.fault.RangeFault.{RangeFault}
 use Rattle.kept_host.specs.declared.range.fault.RangeFault.TheVariants as taking
 use Rattle.kept_host.specs.declared.range.taken.Taken.{Taken}
@@ -94,7 +94,7 @@ pub record IsBegunLook (at : Standing) (line : List ℕ) (old new : Option (List
 
 -- the book without the changes of a range, or as before if none is taken out; and of what is answered a front was written, or all
 abbrev pub IsRangeFront : SerialRange → PlainBook → Option (List ℕ) → Option (List ℕ) → PlainBook → Type 0
-IsRangeFront range b old new left = ((text : List ℕ) × AllTaken (chosen range b) b left text × WritesSome old new text) ⊎ ((left ≡ b) × ((fault : Fault) × WritesSome old new (fault_text fault)))
+IsRangeFront range b old new left = ((text : List ℕ) × AllTaken (chosen range b) b left text × WritesSome old new text) ⊎ ((left ≡ b) × ((fault : Fault) × IsNone range b fault × WritesSome old new (fault_text fault)))
 
 -- one of these, or the book before, and nothing was written
 abbrev pub IsRangePart : SerialRange → PlainBook → Option (List ℕ) → Option (List ℕ) → PlainBook → Type 0
