@@ -1,7 +1,9 @@
 -- What of a script is kept and written.
 use Rattle.std.specs.Prelude.{◌≡◌, ◌⊎◌, ℕ, IsTrue, List, [], ◌++◌, Option}
 use Rattle.std.specs.Io.KnownBytes.{Appends}
+use Rattle.sqlite_trees.specs.declared.store.Store.{Ghosts}
 use Rattle.sqlite.specs.State.{State, HasCleanDisk}
+use Rattle.sqlite.specs.Held.{Held}
 use Rattle.journal_model.specs.Book.{PlainBook}
 use Rattle.console_operand.specs.Line.{lines_of}
 use Rattle.bt_syntax.specs.declared.files.FileText.{FileText}
@@ -11,6 +13,9 @@ use Rattle.kept_event.specs.declared.event.KeptEvent.{KeptEvent}
 use Rattle.kept_book.specs.Leading.{LeadTo}
 use Rattle.kept_ledger.specs.TermsView.{PlainTerms}
 use Rattle.kept_ledger.specs.Ledger.{Entry, IsLedgerOf, LeavesOnly, stamped}
+use Rattle.kept_ledger.specs.Statements.{adding, HasReason}
+use Rattle.kept_file.specs.declared.fault.KeepFault.{KeepFault}
+use Rattle.kept_file.specs.declared.fault.KeepFault.TheVariants.{Sql}
 use Rattle.kept_file.specs.Keeps.{Keeps, HoldsBook, HoldsOne}
 use Rattle.kept_lines.specs.declared.fault.LinesFault.{LinesFault}
 use Rattle.kept_lines.specs.declared.fault.LinesFault.TheVariants.{CannotKeep, Write}
@@ -33,6 +38,12 @@ pub record IsCut (t : PlainTerms) (s : State) (b c : PlainBook) : Type 0 where
 
 abbrev pub IsUnkept : State → State → List KeptEvent → Type 0
 IsUnkept old new events = HasCleanDisk new → (t : PlainTerms) (b c : PlainBook) → IsOnDisk t old b → LeadTo b events c → IsCut t new b c
+
+-- between these two moments of a connection SQLite did not take them, for this reason
+module _ {S : Type 0} (g : Ghosts S) where
+  abbrev pub IsNotTaken : Held S → Held S → KeepFault → Type 0
+  IsNotTaken old new (Sql error) = HasReason g adding old new error
+  IsNotTaken old new _ = ⊥
 
 -- ---- when
 -- a ledger of these terms has these entries and then events that were added at this time, or none

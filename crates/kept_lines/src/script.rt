@@ -8,7 +8,8 @@ ghost use Rattle.console_script.specs.Supplied.{AreSupplied};
 ghost use Rattle.console_script.specs.Transcript.{RanAll};
 ghost use Rattle.kept_book.specs.Leading.{LeadTo};
 ghost use Rattle.kept_ledger.specs.TermsView.{PlainTerms};
-ghost use Rattle.kept_lines.specs.Kept.{IsOnDisk, IsKept, IsUnkept, AddsAt, IsFlushed, IsHeld, IsLost, Stops, LeavesFront, script_on};
+ghost use Rattle.kept_ledger.specs.Ledger.{Entry, IsLedgerOf};
+ghost use Rattle.kept_lines.specs.Kept.{IsOnDisk, IsKept, IsUnkept, IsNotTaken, AddsAt, IsFlushed, IsHeld, IsLost, Stops, LeavesFront, script_on};
 
 use crate::fault::LinesFault;
 use crate::group::Group;
@@ -41,6 +42,7 @@ pub fn keep_events<D: Alter>(
     ensures kept { OnOk result (IsKept (state D.Store conn.old) (state D.Store conn.new) events.now) }
     ensures unkept { OnErr result (IsUnkept (state D.Store conn.old) (state D.Store conn.new) events.now) }
     ensures times { OnOk result (AddsAt time (state D.Store conn.old) (state D.Store conn.new)) }
+    ensures reason { HasCleanDisk (state D.Store conn.new) → (t : PlainTerms) (es : List Entry) → IsLedgerOf t es (state D.Store conn.old) → IfErr result (IsNotTaken D.Store conn.old conn.new) }
 {
     if events.is_empty() {
         return Ok(());

@@ -19,3 +19,6 @@ returns-in-Err-clause-unkept g c clean t b after on leads = record {
   keeps = c.in-Err.ensures.stays clean t b on.keeps;
   leaves = λ db may. elim (c.in-Err.ensures.crash.crash clean db may) [ inl before ↦ inl (on.leaves db before) | inr held ↦ inr (held t b after on.keeps leads) ];
 }
+
+pub returns-in-Err-clause-reason : goal.returns-in-Err-clause-reason
+returns-in-Err-clause-reason g c clean t es was = c.in-Err.ensures.reason clean t es was
