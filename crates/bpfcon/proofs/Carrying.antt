@@ -1,9 +1,10 @@
 -- What the program does by its order, if it came to its end.
 use Rattle.std.proofs.Common.{◌≡◌, ℕ, List, Option, Result, Ok, Err, sym, subst}
-use Rattle.std.specs.Prelude.{IfOk, MatchResult}
+use Rattle.std.specs.Prelude.{Bool, IfOk, MatchResult}
 use Rattle.std.specs.declared.alloc.Global.{Global}
 use Rattle.std.specs.declared.string.String.{String}
 use Rattle.std.specs.Io.KnownBytes.{Appends}
+use Rattle.sqlite.specs.declared.error.Error.{Error}
 use Rattle.bt_mapkind.specs.declared.attr.MapAttr.{MapAttr}
 use Rattle.bt_mapkind.specs.Seen.{Seen}
 use Rattle.journal_model.specs.Book.{PlainBook}
@@ -79,9 +80,9 @@ module _ {K S : Type 0} (g : Ghosts PlainBook PlainEvent Answer) (gives : S → 
   carried_live may_read old new (Err fault) live text frames files are it = tt
 
 -- what was asked was done
-module _ {K S : Type 0} (g : Ghosts PlainBook PlainEvent Answer) (gives : S → MapAttr → Result K NoBox → S → Type 0) (kind : K → Seen) (may_open : List ℕ → Database → Type 0) where
+module _ {K S : Type 0} (g : Ghosts PlainBook PlainEvent Answer) (gives : S → MapAttr → Result K NoBox → S → Type 0) (kind : K → Seen) (may_be_there : List ℕ → Bool → Type 0) (may_open : List ℕ → ℕ → Result Database Error → Type 0) (may_be_time : ℕ → Type 0) where
   pub did_asked : (may_be : Result (List (String Global)) ArgsFault → Type 0) (may_name : Result (Option (String Global)) ArgsFault → Type 0) (may_read : List ℕ → ℕ → Result (List ℕ) ReadFault → Type 0) (request : Request) (old new : Option (List ℕ)) (ran : Result Summary Fault)
-      → IsRequest may_be may_name (Ok request) → IfOk ran (λ summary. Did g gives kind may_open may_read old new summary request) → IfOk ran (λ summary. DidAsked g gives kind may_open may_be may_name may_read summary)
+      → IsRequest may_be may_name (Ok request) → IfOk ran (λ summary. Did g gives kind may_be_there may_open may_be_time may_read old new summary request) → IfOk ran (λ summary. DidAsked g gives kind may_be_there may_open may_be_time may_be may_name may_read summary)
   did_asked may_be may_name may_read request old new (Ok summary) asks it = record { request = request; asked = asks; old = old; new = new; did = it }
   did_asked may_be may_name may_read request old new (Err fault) asks it = tt
 

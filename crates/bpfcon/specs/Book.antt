@@ -1,8 +1,9 @@
 -- Lines on the book that a file keeps, and what the program does, by what is asked.
-use Rattle.std.specs.Prelude.{ℕ, List, Option, Some, None, Result, Ok, ◌≡◌, ◌⊎◌, true, string_bytes}
+use Rattle.std.specs.Prelude.{ℕ, Bool, List, Option, Some, None, Result, Ok, ◌≡◌, ◌⊎◌, true, false, string_bytes}
 use Rattle.std.specs.Io.KnownBytes.{Appends}
 use Rattle.std.specs.declared.alloc.Global.{Global}
 use Rattle.std.specs.declared.string.String.{String}
+use Rattle.sqlite.specs.declared.error.Error.{Error}
 use Rattle.bt_mapkind.specs.declared.attr.MapAttr.{MapAttr}
 use Rattle.bt_mapkind.specs.Seen.{Seen}
 use Rattle.journal_model.specs.Book.{PlainBook, opened}
@@ -58,10 +59,16 @@ IsScriptAsked may_read (Script path) text files = IsScriptOf may_read path text 
 IsScriptAsked may_read (Host path frames) text files = IsScriptOf may_read path text files
 IsScriptAsked may_read Shell text files = ⊥
 
--- a script was run on the book of a file; or on a new host, if it only asks
-abbrev pub RunsOn : (Database → Type 0) → List FileText → List ℕ → Option (List ℕ) → Option (List ℕ) → Summary → Type 0
-RunsOn may_open files text old new summary =
-    RunsOpened may_open host_terms files text old new (Ok summary) ⊎ ((only_ask (lines_of text) ≡ true) × RunsAnew old new device_names limits AllGetNew files text (Ok summary))
+-- whether a script only asks, and the file is not there
+abbrev pub IsOfNone : (Bool → Type 0) → List ℕ → Bool → Type 0
+IsOfNone may_be_there text true = may_be_there false × (only_ask (lines_of text) ≡ true)
+IsOfNone may_be_there text false = may_be_there true ⊎ (only_ask (lines_of text) ≡ false)
+
+-- a script was run on the book of a file; or on a new host, if it only asks and the file is not there
+abbrev pub RunsOn : (Bool → Type 0) → (Result Database Error → Type 0) → (ℕ → Type 0) → List FileText → List ℕ → Option (List ℕ) → Option (List ℕ) → Summary → Type 0
+RunsOn may_be_there may_open may_be_time files text old new summary =
+    (IsOfNone may_be_there text false × RunsOpened may_open may_be_time host_terms files text old new (Ok summary))
+    ⊎ (IsOfNone may_be_there text true × RunsAnew old new device_names limits AllGetNew files text (Ok summary))
 
 -- a look was told of a host in which nothing was done
 pub record LooksAnew (look : Look) (old new : Option (List ℕ)) (summary : Summary) : Type 0 where
@@ -74,12 +81,12 @@ abbrev pub StopsAnew : Look → Option (List ℕ) → Option (List ℕ) → Type
 StopsAnew look old new = (book : PlainBook) × (opened device_names limits ≡ Ok book) × LooksFront look book old new
 
 -- a look was told of the book of a file; or of a new host, if the file was not there
-abbrev pub LooksOn : (Database → Type 0) → Look → Option (List ℕ) → Option (List ℕ) → Summary → Type 0
-LooksOn may_open look old new summary = LooksOpened may_open host_terms look old new (Ok summary) ⊎ LooksAnew look old new summary
+abbrev pub LooksOn : (Bool → Type 0) → (Result Database Error → Type 0) → Look → Option (List ℕ) → Option (List ℕ) → Summary → Type 0
+LooksOn may_be_there may_open look old new summary = (may_be_there true × LooksOpened may_open host_terms look old new (Ok summary)) ⊎ (may_be_there false × LooksAnew look old new summary)
 
 -- the last events of the book of a file were written, or nothing if the file was not there
-pub record TellsLogOf (may_open : Database → Type 0) (most : Option ℕ) (old new : Option (List ℕ)) (summary : Summary) : Type 0 where
-  pub told : LogsOpened may_open most old new (Ok tt) ⊎ (new ≡ old)
+pub record TellsLogOf (may_be_there : Bool → Type 0) (may_open : Result Database Error → Type 0) (most : Option ℕ) (old new : Option (List ℕ)) (summary : Summary) : Type 0 where
+  pub told : (may_be_there true × LogsOpened may_open most old new (Ok tt)) ⊎ (may_be_there false × (new ≡ old))
   pub counts : summary ≡ record { accepted = 1; refused = 0 }
 
 -- a line was answered with a fault
@@ -88,14 +95,14 @@ pub record Refuses (fault : Fault) (old new : Option (List ℕ)) (summary : Summ
   pub counts : summary ≡ record { accepted = 0; refused = 1 }
 
 -- what a line does that begins as one that asks for a log
-abbrev pub LogsOn : (Database → Type 0) → LogLine → Option (List ℕ) → Option (List ℕ) → Summary → Type 0
-LogsOn may_open (Asks most) = TellsLogOf may_open most
-LogsOn may_open (Wrong word) = Refuses (Syntax word)
+abbrev pub LogsOn : (Bool → Type 0) → (Result Database Error → Type 0) → LogLine → Option (List ℕ) → Option (List ℕ) → Summary → Type 0
+LogsOn may_be_there may_open (Asks most) = TellsLogOf may_be_there may_open most
+LogsOn may_be_there may_open (Wrong word) = Refuses (Syntax word)
 
 -- a range was taken out of the book of a file, or none of it
-pub record TookOn (may_open : Database → Type 0) (range : SerialRange) (old new : Option (List ℕ)) (summary : Summary) : Type 0 where
+pub record TookOn (may_open : Result Database Error → Type 0) (may_be_time : ℕ → Type 0) (range : SerialRange) (old new : Option (List ℕ)) (summary : Summary) : Type 0 where
   pub taken : Taken
-  pub took : TakesOpened may_open host_terms range old new (Ok taken)
+  pub took : TakesOpened may_open may_be_time host_terms range old new (Ok taken)
   pub counts : summary ≡ counts_taken taken
 
 -- or none of it is in force on a host in which nothing was done
@@ -106,23 +113,23 @@ pub record TookAnew (range : SerialRange) (old new : Option (List ℕ)) (summary
   pub counts : summary ≡ counts_taken NoneInForce
 
 -- so it is answered if the file was not there
-abbrev pub TakesOn : (Database → Type 0) → SerialRange → Option (List ℕ) → Option (List ℕ) → Summary → Type 0
-TakesOn may_open range old new summary = TookOn may_open range old new summary ⊎ TookAnew range old new summary
+abbrev pub TakesOn : (Bool → Type 0) → (Result Database Error → Type 0) → (ℕ → Type 0) → SerialRange → Option (List ℕ) → Option (List ℕ) → Summary → Type 0
+TakesOn may_be_there may_open may_be_time range old new summary = (may_be_there true × TookOn may_open may_be_time range old new summary) ⊎ (may_be_there false × TookAnew range old new summary)
 
 -- on the book of a file
-module _ (may_open : List ℕ → Database → Type 0) (may_read : List ℕ → ℕ → Result (List ℕ) ReadFault → Type 0) (old new : Option (List ℕ)) (summary : Summary) (file : List ℕ) where
+module _ (may_be_there : List ℕ → Bool → Type 0) (may_open : List ℕ → Result Database Error → Type 0) (may_be_time : ℕ → Type 0) (may_read : List ℕ → ℕ → Result (List ℕ) ReadFault → Type 0) (old new : Option (List ℕ)) (summary : Summary) (file : List ℕ) where
   -- the lines of a script were run
   pub record RanOn (asked : Asked) : Type 0 where
     pub text : List ℕ
     pub files : List FileText
     pub script : IsScriptAsked may_read asked text files
-    pub ran : RunsOn (may_open file) files text old new summary
+    pub ran : RunsOn (may_be_there file) (may_open file) may_be_time files text old new summary
 
   -- a line was run; or the log was told for which it asks, or the range was taken out that it spells, or what it asks was looked at
   abbrev pub DidLine : List ℕ → Option LogLine → Option SerialRange → Option Look → Type 0
-  DidLine line (Some log) _ _ = LogsOn (may_open file) log old new summary
-  DidLine line None (Some range) _ = TakesOn (may_open file) range old new summary
-  DidLine line None None (Some look) = LooksOn (may_open file) look old new summary
+  DidLine line (Some log) _ _ = LogsOn (may_be_there file) (may_open file) log old new summary
+  DidLine line None (Some range) _ = TakesOn (may_be_there file) (may_open file) may_be_time range old new summary
+  DidLine line None None (Some look) = LooksOn (may_be_there file) (may_open file) look old new summary
   DidLine line None None None = RanOn (Line line)
 
   -- the lines of an input were answered one by one
@@ -138,7 +145,7 @@ module _ (may_open : List ℕ → Database → Type 0) (may_read : List ℕ → 
     pub bytes : List ℕ
     pub read : may_read frames MOST_FRAMES (Ok bytes)
     pub it : ServedHost
-    pub served : ServesOpened (may_open file) host_terms files text bytes old new (Ok it)
+    pub served : ServesOpened (may_open file) may_be_time host_terms files text bytes old new (Ok it)
     pub counts : summary ≡ it.summary
 
   abbrev pub DidOn : Asked → Type 0
@@ -149,15 +156,15 @@ module _ (may_open : List ℕ → Database → Type 0) (may_read : List ℕ → 
   DidOn (Host path frames) = ServedOn path frames
 
 -- what is asked of the book of a file was done
-abbrev pub RanBook : (List ℕ → Database → Type 0) → (List ℕ → ℕ → Result (List ℕ) ReadFault → Type 0) → Option (List ℕ) → Option (List ℕ) → Summary → BookOrder → Type 0
-RanBook may_open may_read old new summary order = DidOn may_open may_read old new summary (string_bytes order.file) (asked_for order.lines)
+abbrev pub RanBook : (List ℕ → Bool → Type 0) → (List ℕ → ℕ → Result Database Error → Type 0) → (ℕ → Type 0) → (List ℕ → ℕ → Result (List ℕ) ReadFault → Type 0) → Option (List ℕ) → Option (List ℕ) → Summary → BookOrder → Type 0
+RanBook may_be_there may_open may_be_time may_read old new summary order = DidOn may_be_there (λ it. may_open it order.wait) may_be_time may_read old new summary (string_bytes order.file) (asked_for order.lines)
 
 -- ---- what was asked, with a book or without one
 -- by how a desk steps, what supplies boxes, what is seen of one, and where databases lie
-module _ {K S : Type 0} (g : Turns PlainBook PlainEvent Answer) (gives : S → MapAttr → Result K NoBox → S → Type 0) (kind : K → Seen) (may_open : List ℕ → Database → Type 0) where
+module _ {K S : Type 0} (g : Turns PlainBook PlainEvent Answer) (gives : S → MapAttr → Result K NoBox → S → Type 0) (kind : K → Seen) (may_be_there : List ℕ → Bool → Type 0) (may_open : List ℕ → ℕ → Result Database Error → Type 0) (may_be_time : ℕ → Type 0) where
   abbrev pub Did : (List ℕ → ℕ → Result (List ℕ) ReadFault → Type 0) → Option (List ℕ) → Option (List ℕ) → Summary → Request → Type 0
   Did may_read old new summary (request.Plain order) = Carried g gives kind may_read old new summary order
-  Did may_read old new summary (request.Book order) = RanBook may_open may_read old new summary order
+  Did may_read old new summary (request.Book order) = RanBook may_be_there may_open may_be_time may_read old new summary order
 
   -- what the arguments ask was done
   pub record DidAsked (may_be : Result (List (String Global)) ArgsFault → Type 0) (may_name : Result (Option (String Global)) ArgsFault → Type 0) (may_read : List ℕ → ℕ → Result (List ℕ) ReadFault → Type 0) (summary : Summary) : Type 0 where

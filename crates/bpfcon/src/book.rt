@@ -1,16 +1,14 @@
 //! Lines on the book that a file keeps.
 
-ghost use Rattle.std.specs.Prelude.{◌≡◌, true, Err, IfOk, IfErr, string_bytes};
+ghost use Rattle.std.specs.Prelude.{◌≡◌, Err, IfOk, IfErr, string_bytes};
 ghost use Rattle.console_input.specs.Named.{AreFilesOf};
-ghost use Rattle.console_operand.specs.Line.{lines_of};
 ghost use Rattle.console_operand.specs.Word.{words};
 ghost use Rattle.console_looks.specs.LookGrammar.{look_in};
 ghost use Rattle.kept_log.specs.LogGrammar.{log_line_in};
 ghost use Rattle.kept_lines.specs.RangeGrammar.{range_in};
-ghost use Rattle.kept_host.specs.Asks.{only_ask};
 ghost use Rattle.kept_host.specs.Looks.{LooksInFile};
 ghost use Rattle.kept_host.specs.Runs.{RunsInFile};
-ghost use Rattle.bpfcon.specs.Book.{RunsOn, LooksAnew, StopsAnew, LooksOn, DidLine, TalkedOn, RanBook};
+ghost use Rattle.bpfcon.specs.Book.{IsOfNone, RunsOn, LooksAnew, StopsAnew, LooksOn, DidLine, TalkedOn, RanBook};
 ghost use Rattle.bpfcon.specs.Ends.{EndsBook, EndsLines, EndsReading, EndsServed};
 ghost use Rattle.bpfcon.specs.declared.fault.Fault.TheVariants.{CannotWrite};
 
@@ -38,7 +36,6 @@ use std::io::{BufReader, Read};
 use std::mem::ManuallyDrop;
 use std::sync::Wait;
 use std::thread::Threads;
-use std::time::Clock;
 
 // A text as a script, with the files that it names.
 fn with_named<R: FileReader + AllocGlobal>(rt: &R, text: Vec<u8>) -> Result<Script, Fault>
@@ -66,7 +63,7 @@ fn is_of_none<R: Databases + AllocGlobal>(
     file: &str,
     script: &Script,
 ) -> Result<bool, Fault>
-    ensures ran { IfOk result (λ it. it ≡ true → only_ask (lines_of script.now.text.items) ≡ true) }
+    ensures ran { IfOk result (IsOfNone (R.may_be_there rt.now file.now) script.now.text.items) }
     ensures only { IfErr result EndsReading }
 {
     if rt.is_there(file) {
@@ -79,7 +76,7 @@ fn is_of_none<R: Databases + AllocGlobal>(
 }
 
 // Runs a script of this name, which comes from there, on the book in the file of this path.
-fn run_at<R: FileReader + Eprint + Clock + Databases + AllocGlobal, W: Output>(
+fn run_at<R: FileReader + Eprint + Databases + AllocGlobal, W: Output>(
     rt: &R,
     path: &str,
     wait: u32,
@@ -89,7 +86,7 @@ fn run_at<R: FileReader + Eprint + Clock + Databases + AllocGlobal, W: Output>(
     script: &Script,
     out: &mut W,
 ) -> Result<Summary, InFileFault>
-    ensures { RunsInFile (R.may_open rt.now path.now) terms script.now.files.items script.now.text.items (W.contents out.old) (W.contents out.new) result }
+    ensures { RunsInFile (R.may_open rt.now path.now wait) (R.may_be_time rt.now) terms script.now.files.items script.now.text.items (W.contents out.old) (W.contents out.new) result }
 {
     let mut beside = Beside::new(rt, name, path, origin);
     run_in_file(rt, path, wait, terms, script, &mut beside, out)
@@ -97,7 +94,7 @@ fn run_at<R: FileReader + Eprint + Clock + Databases + AllocGlobal, W: Output>(
 
 // Runs a script of this name, which comes from there, on the book that a file keeps. If the file is not there and the script only
 // asks, it runs on a new host, and no file is made.
-fn run_script<R: FileReader + Eprint + Clock + Databases + AllocGlobal, W: Output>(
+fn run_script<R: FileReader + Eprint + Databases + AllocGlobal, W: Output>(
     rt: &R,
     file: String,
     wait: u32,
@@ -106,7 +103,7 @@ fn run_script<R: FileReader + Eprint + Clock + Databases + AllocGlobal, W: Outpu
     script: &Script,
     out: &mut W,
 ) -> Result<Summary, Fault>
-    ensures ran { IfOk result (RunsOn (R.may_open rt.now (string_bytes file)) script.now.files.items script.now.text.items (W.contents out.old) (W.contents out.new)) }
+    ensures ran { IfOk result (RunsOn (R.may_be_there rt.now (string_bytes file)) (R.may_open rt.now (string_bytes file) wait) (R.may_be_time rt.now) script.now.files.items script.now.text.items (W.contents out.old) (W.contents out.new)) }
     ensures only { IfErr result (EndsBook (W.has_refused out.new)) }
 {
     if is_of_none(rt, file.as_str(), script)? {
@@ -121,7 +118,7 @@ fn run_script<R: FileReader + Eprint + Clock + Databases + AllocGlobal, W: Outpu
 }
 
 // Does what a line asks that only looks into the journal, on the book in the file of this path.
-fn look_at<R: FileReader + Eprint + Clock + Databases + AllocGlobal, W: Output>(
+fn look_at<R: FileReader + Eprint + Databases + AllocGlobal, W: Output>(
     rt: &R,
     path: &str,
     wait: u32,
@@ -129,7 +126,7 @@ fn look_at<R: FileReader + Eprint + Clock + Databases + AllocGlobal, W: Output>(
     look: &Look<'_>,
     out: &mut W,
 ) -> Result<Summary, InFileFault>
-    ensures { LooksInFile (R.may_open rt.now path.now) terms look.now (W.contents out.old) (W.contents out.new) result }
+    ensures { LooksInFile (R.may_open rt.now path.now wait) terms look.now (W.contents out.old) (W.contents out.new) result }
 {
     let mut beside = Beside::new(rt, b"command", path, Origin::Line);
     look_in_file(rt, path, wait, terms, look, &mut beside, out)
@@ -161,14 +158,14 @@ fn look_anew<R: FileReader + Eprint + AllocGlobal, W: Output>(
 
 // Does what a line asks that only looks into the journal, on the book that a file keeps. If the file is not there it looks at a new
 // host, and no file is made.
-fn look_on_book<R: FileReader + Eprint + Clock + Databases + AllocGlobal, W: Output>(
+fn look_on_book<R: FileReader + Eprint + Databases + AllocGlobal, W: Output>(
     rt: &R,
     file: String,
     wait: u32,
     look: &Look<'_>,
     out: &mut W,
 ) -> Result<Summary, Fault>
-    ensures ran { IfOk result (LooksOn (R.may_open rt.now (string_bytes file)) look.now (W.contents out.old) (W.contents out.new)) }
+    ensures ran { IfOk result (LooksOn (R.may_be_there rt.now (string_bytes file)) (R.may_open rt.now (string_bytes file) wait) look.now (W.contents out.old) (W.contents out.new)) }
     ensures only { IfErr result (EndsBook (W.has_refused out.new)) }
 {
     if !rt.is_there(file.as_str()) {
@@ -183,14 +180,14 @@ fn look_on_book<R: FileReader + Eprint + Clock + Databases + AllocGlobal, W: Out
 
 // Does what a line asks on the book that a file keeps: tells the log, takes a range of changes out, looks into the journal, or runs it
 // as a command.
-fn line_on_book<R: FileReader + Eprint + Clock + Databases + AllocGlobal, W: Output>(
+fn line_on_book<R: FileReader + Eprint + Databases + AllocGlobal, W: Output>(
     rt: &R,
     file: String,
     wait: u32,
     line: Vec<u8>,
     out: &mut W,
 ) -> Result<Summary, Fault>
-    ensures ran { IfOk result (λ summary. DidLine (R.may_open rt.now) (R.may_read rt.now) (W.contents out.old) (W.contents out.new) summary (string_bytes file) line.items (log_line_in (words line.items)) (range_in (words line.items)) (look_in (words line.items))) }
+    ensures ran { IfOk result (λ summary. DidLine (R.may_be_there rt.now) (λ it. R.may_open rt.now it wait) (R.may_be_time rt.now) (R.may_read rt.now) (W.contents out.old) (W.contents out.new) summary (string_bytes file) line.items (log_line_in (words line.items)) (range_in (words line.items)) (look_in (words line.items))) }
     ensures only { IfErr result (EndsBook (W.has_refused out.new)) }
 {
     match log_line(line.as_slice()) {
@@ -210,11 +207,13 @@ fn line_on_book<R: FileReader + Eprint + Clock + Databases + AllocGlobal, W: Out
 }
 
 // Answers the lines of standard input one by one on the book that a file keeps.
-fn talk_on_book<
-    R: FileReader + Terminal + Input + Eprint + Clock + Databases + AllocGlobal,
-    W: Output,
->(rt: &R, file: String, wait: u32, out: &mut W) -> Result<Summary, Fault>
-    ensures ran { IfOk result (λ summary. TalkedOn (R.may_open rt.now) (R.may_read rt.now) (W.contents out.old) (W.contents out.new) summary (string_bytes file)) }
+fn talk_on_book<R: FileReader + Terminal + Input + Eprint + Databases + AllocGlobal, W: Output>(
+    rt: &R,
+    file: String,
+    wait: u32,
+    out: &mut W,
+) -> Result<Summary, Fault>
+    ensures ran { IfOk result (λ summary. TalkedOn (R.may_be_there rt.now) (λ it. R.may_open rt.now it wait) (R.may_be_time rt.now) (R.may_read rt.now) (W.contents out.old) (W.contents out.new) summary (string_bytes file)) }
     ensures only { IfErr result (EndsBook (W.has_refused out.new)) }
 {
     let alloc = rt.alloc();
@@ -239,19 +238,10 @@ fn talk_on_book<
 /// Those of a script that is not read, before which the file is not opened; those of lines that are not read one by one; `OfFile`
 /// if the book was not opened, or what a line did was not kept, or not answered; and those of [`serve_on_book`].
 pub fn run_on_book<
-    R: FileReader
-        + Terminal
-        + Input
-        + Eprint
-        + Clock
-        + Databases
-        + AllocGlobal
-        + Threads
-        + Wait
-        + Sync,
+    R: FileReader + Terminal + Input + Eprint + Databases + AllocGlobal + Threads + Wait + Sync,
     W: Output,
 >(rt: &R, order: BookOrder, out: &mut W) -> Result<Summary, Fault>
-    ensures ran { IfOk result (λ summary. RanBook (R.may_open rt.now) (R.may_read rt.now) (W.contents out.old) (W.contents out.new) summary order) }
+    ensures ran { IfOk result (λ summary. RanBook (R.may_be_there rt.now) (R.may_open rt.now) (R.may_be_time rt.now) (R.may_read rt.now) (W.contents out.old) (W.contents out.new) summary order) }
     ensures only { IfErr result (EndsServed (W.has_refused out.new)) }
 {
     let BookOrder { file, wait, lines } = order;

@@ -17,16 +17,12 @@ use kept_host::{Databases, InFileFault, Terms, host_terms};
 use std::alloc::Global;
 use std::sync::Wait;
 use std::thread::Threads;
-use std::time::Clock;
 use thread_asides::tell_frames;
 use thread_host_run::{refused_in, why_none};
 use thread_kept_frames::{HostInFileFault, HostRunFault, ServedHost, serve_in_file};
 
 // Runs a script of this name on the book in the file of this path, and serves frames on the host that it left.
-fn serve_at<
-    R: FileReader + Eprint + Clock + Databases + AllocGlobal + Threads + Wait + Sync,
-    W: Output,
->(
+fn serve_at<R: FileReader + Eprint + Databases + AllocGlobal + Threads + Wait + Sync, W: Output>(
     rt: &R,
     path: &str,
     wait: u32,
@@ -36,7 +32,7 @@ fn serve_at<
     frames: &[u8],
     out: &mut W,
 ) -> Result<ServedHost, HostInFileFault>
-    ensures { ServesInFile (R.may_open rt.now path.now) terms script.now.files.items script.now.text.items frames.now (W.contents out.old) (W.contents out.new) result }
+    ensures { ServesInFile (R.may_open rt.now path.now wait) (R.may_be_time rt.now) terms script.now.files.items script.now.text.items frames.now (W.contents out.old) (W.contents out.new) result }
 {
     let mut beside = Beside::new(rt, name, path, Origin::Script);
     serve_in_file(rt, path, wait, terms, script, frames, &mut beside, out)
@@ -71,10 +67,10 @@ fn fault_in_file(alloc: Global, file: String, frames: &[u8], fault: HostInFileFa
 /// opened, or what a line did was not kept, or not answered; `OfFrames` if the frames were not served, or what they changed was not
 /// kept, or how they ended was not told; and `CannotWrite`.
 pub fn serve_on_book<
-    R: FileReader + Eprint + Clock + Databases + AllocGlobal + Threads + Wait + Sync,
+    R: FileReader + Eprint + Databases + AllocGlobal + Threads + Wait + Sync,
     W: Output,
 >(rt: &R, file: String, wait: u32, path: &str, frames: &str, out: &mut W) -> Result<Summary, Fault>
-    ensures ran { IfOk result (λ summary. ServedOn (R.may_open rt.now) (R.may_read rt.now) (W.contents out.old) (W.contents out.new) summary (string_bytes file) path.now frames.now) }
+    ensures ran { IfOk result (λ summary. ServedOn (R.may_be_there rt.now) (λ it. R.may_open rt.now it wait) (R.may_be_time rt.now) (R.may_read rt.now) (W.contents out.old) (W.contents out.new) summary (string_bytes file) path.now frames.now) }
     ensures only { IfErr result (EndsServed (W.has_refused out.new)) }
 {
     let script = read_script(rt, path)?;

@@ -10,17 +10,16 @@ use console_answer::Fault as LineFault;
 use console_script::Summary;
 use console_text::Output;
 use kept_host::{Databases, LogLine, log_in_file};
-use std::time::Clock;
 
 // Writes the last so many events of the book in a file, or all. Of a file that is not there nothing is written, and none is made.
-fn tell<R: Clock + Databases + AllocGlobal, W: Output>(
+fn tell<R: Databases + AllocGlobal, W: Output>(
     rt: &R,
     file: String,
     wait: u32,
     most: Option<u64>,
     out: &mut W,
 ) -> Result<Summary, Fault>
-    ensures ran { IfOk result (TellsLogOf (R.may_open rt.now (string_bytes file)) most (W.contents out.old) (W.contents out.new)) }
+    ensures ran { IfOk result (TellsLogOf (R.may_be_there rt.now (string_bytes file)) (R.may_open rt.now (string_bytes file) wait) most (W.contents out.old) (W.contents out.new)) }
     ensures only { IfErr result (EndsBook (W.has_refused out.new)) }
 {
     if !rt.is_there(file.as_str()) {
@@ -42,7 +41,7 @@ fn tell<R: Clock + Databases + AllocGlobal, W: Output>(
 ///
 /// # Errors
 /// `OfLog` if the file is not opened, or its log not read or not written; `CannotWrite` if it is not written that the line is wrong.
-pub fn log_on_book<R: Eprint + Clock + Databases + AllocGlobal, W: Output>(
+pub fn log_on_book<R: Eprint + Databases + AllocGlobal, W: Output>(
     rt: &R,
     file: String,
     wait: u32,
@@ -50,7 +49,7 @@ pub fn log_on_book<R: Eprint + Clock + Databases + AllocGlobal, W: Output>(
     asked: LogLine,
     out: &mut W,
 ) -> Result<Summary, Fault>
-    ensures ran { IfOk result (LogsOn (R.may_open rt.now (string_bytes file)) asked (W.contents out.old) (W.contents out.new)) }
+    ensures ran { IfOk result (LogsOn (R.may_be_there rt.now (string_bytes file)) (R.may_open rt.now (string_bytes file) wait) asked (W.contents out.old) (W.contents out.new)) }
     ensures only { IfErr result (EndsBook (W.has_refused out.new)) }
 {
     match asked {

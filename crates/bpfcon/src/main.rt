@@ -235,7 +235,7 @@ fn answer_request<
         + Sync,
     W: Output + Drop,
 >(rt: &R, request: Request, out: W) -> (W, Result<Summary, Fault>)
-    ensures ran { IfOk result.1 (λ summary. Did ⟦<Shared<HostKind> as Sequential>⟧ ⟦<HostSupply as Supply<HostKind>>⟧.gives ⟦<HostKind as MapKind>⟧.seen (R.may_open rt.now) (R.may_read rt.now)
+    ensures ran { IfOk result.1 (λ summary. Did ⟦<Shared<HostKind> as Sequential>⟧ ⟦<HostSupply as Supply<HostKind>>⟧.gives ⟦<HostKind as MapKind>⟧.seen (R.may_be_there rt.now) (R.may_open rt.now) (R.may_be_time rt.now) (R.may_read rt.now)
         (W.contents out) (W.contents result.0) summary request) }
     ensures only { IfErr result.1 (EndsRun (W.has_refused result.0)) }
 {
@@ -264,7 +264,7 @@ fn run<
         + Databases
         + Sync,
 >(rt: &R) -> Result<Summary, Fault>
-    ensures ran { IfOk result (λ summary. DidAsked ⟦<Shared<HostKind> as Sequential>⟧ ⟦<HostSupply as Supply<HostKind>>⟧.gives ⟦<HostKind as MapKind>⟧.seen (R.may_open rt.now) (R.may_be rt.now) (R.may_name rt.now) (R.may_read rt.now) summary) }
+    ensures ran { IfOk result (λ summary. DidAsked ⟦<Shared<HostKind> as Sequential>⟧ ⟦<HostSupply as Supply<HostKind>>⟧.gives ⟦<HostKind as MapKind>⟧.seen (R.may_be_there rt.now) (R.may_open rt.now) (R.may_be_time rt.now) (R.may_be rt.now) (R.may_name rt.now) (R.may_read rt.now) summary) }
     ensures only { IfErr result (EndsProgram (R.may_be rt.now) (R.may_name rt.now)) }
 {
     let request = match request_of_args(rt) {

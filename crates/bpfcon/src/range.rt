@@ -14,10 +14,9 @@ use console_input::FileReader;
 use console_script::Summary;
 use console_text::Output;
 use kept_host::{Databases, InFileFault, SerialRange, Taken, Terms, host_terms, take_in_file};
-use std::time::Clock;
 
 // Takes the range that a line spells out of the book in the file of this path.
-fn take_at<R: FileReader + Eprint + Clock + Databases + AllocGlobal, W: Output>(
+fn take_at<R: FileReader + Eprint + Databases + AllocGlobal, W: Output>(
     rt: &R,
     path: &str,
     wait: u32,
@@ -26,7 +25,7 @@ fn take_at<R: FileReader + Eprint + Clock + Databases + AllocGlobal, W: Output>(
     range: SerialRange,
     out: &mut W,
 ) -> Result<Taken, InFileFault>
-    ensures { TakesInFile (R.may_open rt.now path.now) terms range (W.contents out.old) (W.contents out.new) result }
+    ensures { TakesInFile (R.may_open rt.now path.now wait) (R.may_be_time rt.now) terms range (W.contents out.old) (W.contents out.new) result }
 {
     let mut beside = Beside::new(rt, b"command", path, Origin::Line);
     take_in_file(rt, path, wait, terms, line, range, &mut beside, out)
@@ -38,7 +37,7 @@ fn take_at<R: FileReader + Eprint + Clock + Databases + AllocGlobal, W: Output>(
 /// # Errors
 /// `OfFile` if the file is not opened, or if what is taken out is not kept or not answered; `CannotWrite` if it is not written that no
 /// change is in force where there is no file; `NoMemory` before the file is opened.
-pub fn take_on_book<R: FileReader + Eprint + Clock + Databases + AllocGlobal, W: Output>(
+pub fn take_on_book<R: FileReader + Eprint + Databases + AllocGlobal, W: Output>(
     rt: &R,
     file: String,
     wait: u32,
@@ -46,7 +45,7 @@ pub fn take_on_book<R: FileReader + Eprint + Clock + Databases + AllocGlobal, W:
     range: SerialRange,
     out: &mut W,
 ) -> Result<Summary, Fault>
-    ensures ran { IfOk result (TakesOn (R.may_open rt.now (string_bytes file)) range (W.contents out.old) (W.contents out.new)) }
+    ensures ran { IfOk result (TakesOn (R.may_be_there rt.now (string_bytes file)) (R.may_open rt.now (string_bytes file) wait) (R.may_be_time rt.now) range (W.contents out.old) (W.contents out.new)) }
     ensures only { IfErr result (EndsBook (W.has_refused out.new)) }
 {
     if !rt.is_there(file.as_str()) {

@@ -1,5 +1,5 @@
 -- Looks into the journal of the book that was begun.
-use Rattle.std.proofs.Common.{List, ℕ, Option, Ok, Err, refl, sym, subst}
+use Rattle.std.proofs.Common.{◌≡◌, List, ℕ, Option, Ok, Err, refl, sym, subst}
 use Rattle.sqlite.specs.State.{State}
 use Rattle.journal_model.specs.Book.{PlainBook}
 use Rattle.bt_journal.specs.BookView.{BookView}
@@ -10,6 +10,7 @@ use Rattle.console_talk.specs.Talk.{TellsLook}
 use Rattle.kept_ledger.specs.TermsView.{PlainTerms}
 use Rattle.kept_lines.specs.Kept.{IsOnDisk}
 use Rattle.kept_lines.specs.declared.fault.LinesFault.{LinesFault}
+use Rattle.kept_lines.specs.declared.fault.LinesFault.TheVariants.{Write}
 use Rattle.kept_lines.specs.Begun.{BeginsOn}
 use Rattle.kept_host.specs.Looks.{LooksAt, LooksFront, StaysKept, LooksKept}
 use Rattle.kept_lines.specs.declared.fault.KeptFault.{KeptFault}
@@ -34,5 +35,5 @@ module _ (terms : PlainTerms) (look : Look) (old : State) (out_old : Option (Lis
     pub looked_kept : (summary : Summary) → LooksAt look book.plain out_old out_new summary → LooksKept terms look old new out_old out_new (Ok summary)
     looked_kept summary it = record { book = book.plain; looked = it; kept = stays }
 
-    pub look_stops : (why : LinesFault) → LooksFront look book.plain out_old out_new → LooksKept terms look old new out_old out_new (Err (Lines why))
-    look_stops why it = record { book = book.plain; front = it; kept = stays }
+    pub look_stops : (why : LinesFault) → why ≡ Write → LooksFront look book.plain out_old out_new → LooksKept terms look old new out_old out_new (Err (Lines why))
+    look_stops why is it = (is, record { book = book.plain; front = it; kept = stays })

@@ -4,6 +4,7 @@ use Rattle.std.specs.Prelude.{⊤, OnOk, OnErr}
 use Rattle.std.specs.Option.{IfSome}
 use Rattle.std.specs.Io.BufRead.{take_through, drop_through}
 use Rattle.sqlite.specs.State.{State, HasCleanDisk}
+use Rattle.sqlite.specs.declared.error.Error.{Error}
 use Rattle.journal_model.specs.Book.{PlainBook}
 use Rattle.bt_journal.specs.BookView.{BookView}
 use Rattle.console_operand.specs.Line.{lines_of}
@@ -159,7 +160,7 @@ module _ (terms : PlainTerms) (may_read : List ℕ → ℕ → Result (List ℕ)
         }))
 
 -- ---- on the book of a file
-pub in_file : (may_open : Database → Type 0) (terms : PlainTerms) (may_read : List ℕ → ℕ → Result (List ℕ) ReadFault → Type 0) (input out_old out_new : Option (List ℕ)) (result : Result Summary TalkFault)
+pub in_file : (may_open : Result Database Error → Type 0) (terms : PlainTerms) (may_read : List ℕ → ℕ → Result (List ℕ) ReadFault → Type 0) (input out_old out_new : Option (List ℕ)) (result : Result Summary TalkFault)
     → TalksOpened may_open terms may_read input out_old out_new result → TalksInFile may_open terms may_read input out_old out_new result
 in_file may_open terms may_read input out_old out_new (Ok summary) it = it
 in_file may_open terms may_read input out_old out_new (Err (InFile (Unopened error))) it = absurd it.ran

@@ -3,6 +3,7 @@ use Rattle.std.specs.Prelude.{◌≡◌, ℕ, List, Option, Result, Ok, Err}
 use Rattle.std.specs.declared.alloc.AllocError.{AllocError}
 use Rattle.sqlite.specs.State.{State, HasCleanDisk}
 use Rattle.sqlite.specs.Files.{file_state}
+use Rattle.sqlite.specs.declared.error.Error.{Error}
 use Rattle.journal_model.specs.Book.{PlainBook}
 use Rattle.console_looks.specs.Answered.{ShowsLooked, ShowsFront}
 use Rattle.console_looks.specs.declared.look.Look.{Look}
@@ -13,6 +14,7 @@ use Rattle.console_script.specs.Transcript.{no_counts}
 use Rattle.console_script.specs.declared.summary.Summary.{Summary}
 use Rattle.kept_ledger.specs.TermsView.{PlainTerms}
 use Rattle.kept_lines.specs.Kept.{IsOnDisk}
+use Rattle.kept_lines.specs.declared.fault.LinesFault.TheVariants.{Write}
 use Rattle.kept_lines.specs.Begun.{WasReady, HasBook, IsNotRun, IsNotOpened}
 use Rattle.kept_lines.specs.declared.databases.Database.{Database}
 use Rattle.kept_lines.specs.declared.fault.InFileFault.{InFileFault}
@@ -63,19 +65,19 @@ module _ (terms : PlainTerms) (look : Look) (old new : State) (out_old out_new :
   LooksKept (Ok summary) = LookedKept summary
   LooksKept (Err (Open why)) = IsNotOpened terms old new out_old out_new why
   LooksKept (Err (Make error)) = IsNotRun terms old new out_old out_new
-  LooksKept (Err (Lines why)) = LookStops
+  LooksKept (Err (Lines why)) = (why ≡ Write) × LookStops
 
 -- ---- on the book of a file
 -- on a connection that was opened
-pub record LooksOpened (may_open : Database → Type 0) (terms : PlainTerms) (look : Look) (out_old out_new : Option (List ℕ)) (result : Result Summary KeptFault) : Type 0 where
+pub record LooksOpened (may_open : Result Database Error → Type 0) (terms : PlainTerms) (look : Look) (out_old out_new : Option (List ℕ)) (result : Result Summary KeptFault) : Type 0 where
   pub old : Database
   pub new : Database
-  pub opened : may_open old
+  pub opened : may_open (Ok old)
   pub ready : WasReady (file_state old.conn)
   pub looked : LooksKept terms look (file_state old.conn) (file_state new.conn) out_old out_new result
 
 -- or the file was not opened, and nothing was looked at
-abbrev pub LooksInFile : (Database → Type 0) → PlainTerms → Look → Option (List ℕ) → Option (List ℕ) → Result Summary InFileFault → Type 0
+abbrev pub LooksInFile : (Result Database Error → Type 0) → PlainTerms → Look → Option (List ℕ) → Option (List ℕ) → Result Summary InFileFault → Type 0
 LooksInFile may_open terms look out_old out_new (Ok summary) = LooksOpened may_open terms look out_old out_new (Ok summary)
-LooksInFile may_open terms look out_old out_new (Err (Unopened error)) = out_new ≡ out_old
+LooksInFile may_open terms look out_old out_new (Err (Unopened error)) = may_open (Err error) × (out_new ≡ out_old)
 LooksInFile may_open terms look out_old out_new (Err (Kept fault)) = LooksOpened may_open terms look out_old out_new (Err fault)

@@ -1,18 +1,19 @@
 -- A range of changes taken out of the book of a database: what is written, and what is then on the disk.
-use Rattle.std.specs.Prelude.{◌≡◌, ◌⊎◌, ℕ, List, Option, Result, Ok, Err}
+use Rattle.std.specs.Prelude.{◌≡◌, ◌⊎◌, ℕ, List, Option, Result, Ok, Err, IfOk}
 use Rattle.sqlite.specs.State.{State, HasCleanDisk}
 use Rattle.sqlite.specs.Files.{file_state}
+use Rattle.sqlite.specs.declared.error.Error.{Error}
 use Rattle.journal_model.specs.Book.{PlainBook}
 use Rattle.kept_ledger.specs.TermsView.{PlainTerms}
 use Rattle.kept_ledger.specs.Ledger.{LeavesOnly}
 use Rattle.kept_file.specs.Keeps.{HoldsOne}
 use Rattle.kept_lines.specs.Kept.{IsOnDisk}
-use Rattle.kept_host.specs.Taking.{AllOrNone, ComesTo, UnlessAll, Stops}
+use Rattle.kept_host.specs.Taking.{AllOrNone, ComesTo, IfAll, UnlessAll, Stops}
 use Rattle.kept_host.specs.declared.range.fault.RangeFault.{RangeFault}
 use Rattle.kept_host.specs.declared.range.fault.RangeFault.TheVariants as taking
 use Rattle.kept_lines.specs.declared.range.SerialRange.{SerialRange}
 use Rattle.kept_host.specs.declared.range.taken.Taken.{Taken}
-use Rattle.kept_lines.specs.Begun.{WasReady, HasBook, IsNotRun, IsNotOpened}
+use Rattle.kept_lines.specs.Begun.{WasReady, HasBook, IsNotRun, IsNotOpened, AddsNow}
 use Rattle.kept_lines.specs.declared.databases.Database.{Database}
 use Rattle.kept_lines.specs.declared.fault.InFileFault.{InFileFault}
 use Rattle.kept_lines.specs.declared.fault.InFileFault.TheVariants.{Unopened, Kept}
@@ -58,15 +59,16 @@ module _ (terms : PlainTerms) (range : SerialRange) (old new : State) (out_old o
 
 -- ---- on the book of a file
 -- on a connection that was opened
-pub record TakesOpened (may_open : Database → Type 0) (terms : PlainTerms) (range : SerialRange) (out_old out_new : Option (List ℕ)) (result : Result Taken KeptFault) : Type 0 where
+pub record TakesOpened (may_open : Result Database Error → Type 0) (may_be_time : ℕ → Type 0) (terms : PlainTerms) (range : SerialRange) (out_old out_new : Option (List ℕ)) (result : Result Taken KeptFault) : Type 0 where
   pub old : Database
   pub new : Database
-  pub opened : may_open old
+  pub opened : may_open (Ok old)
   pub ready : WasReady (file_state old.conn)
   pub took : TakesKept terms range (file_state old.conn) (file_state new.conn) out_old out_new result
+  pub times : IfOk result (λ taken. IfAll taken (AddsNow terms may_be_time (file_state old.conn) (file_state new.conn)))
 
 -- or the file was not opened, and nothing was written
-abbrev pub TakesInFile : (Database → Type 0) → PlainTerms → SerialRange → Option (List ℕ) → Option (List ℕ) → Result Taken InFileFault → Type 0
-TakesInFile may_open terms range out_old out_new (Ok taken) = TakesOpened may_open terms range out_old out_new (Ok taken)
-TakesInFile may_open terms range out_old out_new (Err (Unopened error)) = out_new ≡ out_old
-TakesInFile may_open terms range out_old out_new (Err (Kept fault)) = TakesOpened may_open terms range out_old out_new (Err fault)
+abbrev pub TakesInFile : (Result Database Error → Type 0) → (ℕ → Type 0) → PlainTerms → SerialRange → Option (List ℕ) → Option (List ℕ) → Result Taken InFileFault → Type 0
+TakesInFile may_open may_be_time terms range out_old out_new (Ok taken) = TakesOpened may_open may_be_time terms range out_old out_new (Ok taken)
+TakesInFile may_open may_be_time terms range out_old out_new (Err (Unopened error)) = may_open (Err error) × (out_new ≡ out_old)
+TakesInFile may_open may_be_time terms range out_old out_new (Err (Kept fault)) = TakesOpened may_open may_be_time terms range out_old out_new (Err fault)

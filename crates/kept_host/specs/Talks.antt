@@ -2,6 +2,7 @@
 use Rattle.std.specs.Prelude.{◌≡◌, ◌⊎◌, ⊤, ℕ, List, ◌∷◌, Option, Some, None, Result, Ok, Err}
 use Rattle.sqlite.specs.State.{State, HasCleanDisk}
 use Rattle.sqlite.specs.Files.{file_state}
+use Rattle.sqlite.specs.declared.error.Error.{Error}
 use Rattle.journal_model.specs.Book.{PlainBook}
 use Rattle.console_operand.specs.Line.{lines_of}
 use Rattle.console_operand.specs.Word.{words}
@@ -164,16 +165,16 @@ fault_of (broken.Open why) = InFile (Kept (Open why))
 fault_of (broken.Unread why) = Unread why
 
 -- so on a connection that was opened
-pub record TalksOpened (may_open : Database → Type 0) (terms : PlainTerms) (may_read : List ℕ → ℕ → Result (List ℕ) ReadFault → Type 0) (input out_old out_new : Option (List ℕ)) (result : Result Summary TalkFault) : Type 0 where
+pub record TalksOpened (may_open : Result Database Error → Type 0) (terms : PlainTerms) (may_read : List ℕ → ℕ → Result (List ℕ) ReadFault → Type 0) (input out_old out_new : Option (List ℕ)) (result : Result Summary TalkFault) : Type 0 where
   pub old : Database
   pub new : Database
-  pub opened : may_open old
+  pub opened : may_open (Ok old)
   pub ready : WasReady (file_state old.conn)
   pub ran : TalksKept terms may_read input (file_state old.conn) (file_state new.conn) out_old out_new result
 
 -- or the file was not opened, and no line was read
-abbrev pub TalksInFile : (Database → Type 0) → PlainTerms → (List ℕ → ℕ → Result (List ℕ) ReadFault → Type 0) → Option (List ℕ) → Option (List ℕ) → Option (List ℕ) → Result Summary TalkFault → Type 0
+abbrev pub TalksInFile : (Result Database Error → Type 0) → PlainTerms → (List ℕ → ℕ → Result (List ℕ) ReadFault → Type 0) → Option (List ℕ) → Option (List ℕ) → Option (List ℕ) → Result Summary TalkFault → Type 0
 TalksInFile may_open terms may_read input out_old out_new (Ok summary) = TalksOpened may_open terms may_read input out_old out_new (Ok summary)
-TalksInFile may_open terms may_read input out_old out_new (Err (InFile (Unopened error))) = out_new ≡ out_old
+TalksInFile may_open terms may_read input out_old out_new (Err (InFile (Unopened error))) = may_open (Err error) × (out_new ≡ out_old)
 TalksInFile may_open terms may_read input out_old out_new (Err (InFile (Kept fault))) = TalksOpened may_open terms may_read input out_old out_new (Err (InFile (Kept fault)))
 TalksInFile may_open terms may_read input out_old out_new (Err (Unread why)) = TalksOpened may_open terms may_read input out_old out_new (Err (Unread why))

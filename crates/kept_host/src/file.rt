@@ -15,16 +15,15 @@ use console_looks::Look;
 use console_script::{HostKind, Summary};
 use console_text::Output;
 use kept_file::Terms;
-use kept_lines::{Asides, Databases, InFileFault, milliseconds, open_waiting};
+use kept_lines::{Asides, Databases, InFileFault};
 use std::io::BufRead;
-use std::time::Clock;
 
 /// Runs the lines of a script on the book that the file of this path keeps, as [`run_kept`] does on a connection to it. A file
 /// that is not there is made. For one that is in use it waits so many seconds.
 ///
 /// # Errors
 /// Unopened where the file is not opened, after which no line was run, and those of [`run_kept`].
-pub fn run_in_file<R: Databases + Clock + AllocGlobal, A: Asides<HostKind, W>, W: Output>(
+pub fn run_in_file<R: Databases + AllocGlobal, A: Asides<HostKind, W>, W: Output>(
     rt: &R,
     path: &str,
     seconds: u32,
@@ -33,13 +32,13 @@ pub fn run_in_file<R: Databases + Clock + AllocGlobal, A: Asides<HostKind, W>, W
     asides: &mut A,
     out: &mut W,
 ) -> Result<Summary, InFileFault>
-    ensures { RunsInFile (R.may_open rt.now path.now) terms script.now.files.items script.now.text.items (W.contents out.old) (W.contents out.new) result }
+    ensures { RunsInFile (R.may_open rt.now path.now seconds) (R.may_be_time rt.now) terms script.now.files.items script.now.text.items (W.contents out.old) (W.contents out.new) result }
 {
-    let mut it = match open_waiting(rt, path, seconds) {
+    let mut it = match rt.open_database(path, seconds) {
         Ok(it) => it,
         Err(error) => return Err(InFileFault::Unopened(error)),
     };
-    let time = milliseconds(rt);
+    let time = rt.milliseconds();
     let ran = run_kept(rt.alloc(), &mut it.conn, time, terms, script, asides, out);
     let _ = rt.close_database(it);
     match ran {
@@ -53,7 +52,7 @@ pub fn run_in_file<R: Databases + Clock + AllocGlobal, A: Asides<HostKind, W>, W
 ///
 /// # Errors
 /// Unopened if the file is not opened, and then nothing was looked at, and those of [`look_kept`].
-pub fn look_in_file<R: Databases + Clock + AllocGlobal, A: Asides<HostKind, W>, W: Output>(
+pub fn look_in_file<R: Databases + AllocGlobal, A: Asides<HostKind, W>, W: Output>(
     rt: &R,
     path: &str,
     seconds: u32,
@@ -62,9 +61,9 @@ pub fn look_in_file<R: Databases + Clock + AllocGlobal, A: Asides<HostKind, W>, 
     asides: &mut A,
     out: &mut W,
 ) -> Result<Summary, InFileFault>
-    ensures { LooksInFile (R.may_open rt.now path.now) terms look.now (W.contents out.old) (W.contents out.new) result }
+    ensures { LooksInFile (R.may_open rt.now path.now seconds) terms look.now (W.contents out.old) (W.contents out.new) result }
 {
-    let mut it = match open_waiting(rt, path, seconds) {
+    let mut it = match rt.open_database(path, seconds) {
         Ok(it) => it,
         Err(error) => return Err(InFileFault::Unopened(error)),
     };
@@ -82,7 +81,7 @@ pub fn look_in_file<R: Databases + Clock + AllocGlobal, A: Asides<HostKind, W>, 
 /// # Errors
 /// Unopened if the file is not opened, after which no line was read, and those of [`talk_kept`].
 pub fn talk_in_file<
-    R: Databases + FileReader + Terminal + Eprint + Clock + AllocGlobal,
+    R: Databases + FileReader + Terminal + Eprint + AllocGlobal,
     A: Asides<HostKind, W>,
     I: BufRead,
     W: Output,
@@ -95,9 +94,9 @@ pub fn talk_in_file<
     input: &mut I,
     out: &mut W,
 ) -> Result<Summary, TalkFault>
-    ensures { TalksInFile (R.may_open rt.now path.now) terms (R.may_read rt.now) (I.remaining input.old) (W.contents out.old) (W.contents out.new) result }
+    ensures { TalksInFile (R.may_open rt.now path.now seconds) terms (R.may_read rt.now) (I.remaining input.old) (W.contents out.old) (W.contents out.new) result }
 {
-    let mut it = match open_waiting(rt, path, seconds) {
+    let mut it = match rt.open_database(path, seconds) {
         Ok(it) => it,
         Err(error) => return Err(TalkFault::InFile(InFileFault::Unopened(error))),
     };
@@ -112,16 +111,16 @@ pub fn talk_in_file<
 ///
 /// # Errors
 /// Unopened if the file is not opened, after which nothing was written, and those of [`log_kept`].
-pub fn log_in_file<R: Databases + Clock + AllocGlobal, W: Output>(
+pub fn log_in_file<R: Databases + AllocGlobal, W: Output>(
     rt: &R,
     path: &str,
     seconds: u32,
     most: Option<u64>,
     out: &mut W,
 ) -> Result<(), LogInFileFault>
-    ensures { LogsInFile (R.may_open rt.now path.now) most (W.contents out.old) (W.contents out.new) result }
+    ensures { LogsInFile (R.may_open rt.now path.now seconds) most (W.contents out.old) (W.contents out.new) result }
 {
-    let mut it = match open_waiting(rt, path, seconds) {
+    let mut it = match rt.open_database(path, seconds) {
         Ok(it) => it,
         Err(error) => return Err(LogInFileFault::Unopened(error)),
     };

@@ -1,8 +1,9 @@
 //! Looks into the journal of a kept book.
 
-ghost use Rattle.std.specs.Prelude.{◌≡◌, IfOk, OnErr};
+ghost use Rattle.std.specs.Prelude.{◌≡◌, IfOk, IfErr, OnErr};
 ghost use Rattle.sqlite.specs.Held.{state};
 ghost use Rattle.console_looks.specs.Answered.{ShowsFront};
+ghost use Rattle.kept_lines.specs.declared.fault.LinesFault.TheVariants.{Write};
 ghost use Rattle.kept_host.specs.Looks.{counts_of, ShowsCounted, LooksAt, LooksFront, LooksKept};
 
 use bt_journal::Book;
@@ -42,6 +43,7 @@ fn show_now<K: MapKind, W: Output>(
     ensures shown { IfOk result (ShowsCounted serial book.old.plain (W.contents out.old) (W.contents out.new)) }
     ensures front { OnErr result (ShowsFront serial book.old.plain (W.contents out.old) (W.contents out.new)) }
     ensures refused { OnErr result (W.has_refused out.new) }
+    ensures only { IfErr result (λ fault. fault ≡ Write) }
     ensures same { book.new.plain ≡ book.old.plain }
 {
     match answer_show(book, serial, out) {
@@ -65,6 +67,7 @@ pub fn look_now<K: MapKind, A: Asides<K, W>, W: Output>(
     ensures looked { IfOk result (LooksAt look.now book.old.plain (W.contents out.old) (W.contents out.new)) }
     ensures front { OnErr result (LooksFront look.now book.old.plain (W.contents out.old) (W.contents out.new)) }
     ensures refused { OnErr result (W.has_refused out.new) }
+    ensures only { IfErr result (λ fault. fault ≡ Write) }
     ensures same { book.new.plain ≡ book.old.plain }
 {
     match look {

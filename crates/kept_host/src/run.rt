@@ -15,12 +15,11 @@ use console_script::{HostKind, HostSupply, Summary};
 use console_talk::Manner;
 use console_text::Output;
 use kept_file::Terms;
-use kept_lines::{Asides, HostBoxes, InFileFault, KeptFault, begin, keep_lines};
+use kept_lines::{Asides, Databases, HostBoxes, InFileFault, KeptFault, begin, keep_lines};
 use sqlite::{Alter, Connection};
 use std::alloc::Global;
 use std::io::BufRead;
 use std::mem::ManuallyDrop;
-use std::time::Clock;
 
 // Tells what lines turned that are all kept, if one was accepted.
 fn told_turned<A: Asides<HostKind, W>, W: Output>(
@@ -103,7 +102,7 @@ fn fault_of(broken: Broken) -> TalkFault
 /// was answered before is on the disk.
 pub fn talk_kept<
     D: Alter,
-    R: FileReader + Terminal + Eprint + Clock + AllocGlobal,
+    R: FileReader + Terminal + Eprint + Databases + AllocGlobal,
     A: Asides<HostKind, W>,
     I: BufRead,
     W: Output,

@@ -30,11 +30,10 @@ use console_talk::{Manner, read_line};
 use console_text::Output;
 use kept_file::MakeBox;
 use kept_lines::{
-    Asides, Hints, KeptDialogue, LinesFault, SerialRange, Wrong, milliseconds, range_of, wrong_in,
+    Asides, Databases, Hints, KeptDialogue, LinesFault, SerialRange, Wrong, range_of, wrong_in,
 };
 use sqlite::{Alter, Connection};
 use std::io::BufRead;
-use std::time::Clock;
 
 // Tells of a line in which something went wrong, if something did.
 fn told<K: MapKind, H: Hints<K, W>, W: Output>(
@@ -71,7 +70,7 @@ fn told_after<K: MapKind, A: Asides<K, W>, W: Output>(
 // Does one line with the files that it names, keeps what it did, and has its answer stand on the output when it returns.
 fn keep_now<
     D: Alter,
-    R: FileReader + Clock + AllocGlobal,
+    R: FileReader + Databases + AllocGlobal,
     K: MapKind,
     S: Supply<K>,
     H: Hints<K, W>,
@@ -102,7 +101,7 @@ fn keep_now<
     };
     let files = files.as_slice();
     let before = dialogue.summary();
-    let (alloc, time) = (rt.alloc(), milliseconds(rt));
+    let (alloc, time) = (rt.alloc(), rt.milliseconds());
     let tally = match dialogue.keep(alloc, conn, time, book, supply, files, line, out) {
         Ok(tally) => tally,
         Err(fault) => return Err(Broken::Lines(fault)),
@@ -137,7 +136,7 @@ fn told_look<K: MapKind, A: Asides<K, W>, W: Output>(
 // there is to tell beside its answer.
 fn hear_line<
     D: Alter,
-    R: FileReader + Clock + AllocGlobal,
+    R: FileReader + Databases + AllocGlobal,
     K: MapKind,
     S: Supply<K>,
     A: Asides<K, W>,
@@ -182,7 +181,7 @@ fn hear_line<
 // tells what there is to tell beside the answer.
 fn take_now<
     D: Alter,
-    R: Clock + AllocGlobal,
+    R: Databases + AllocGlobal,
     K: MapKind,
     B: MakeBox<K>,
     A: Asides<K, W>,
@@ -209,7 +208,7 @@ fn take_now<
         → LeavesOnly (HoldsOne t (IsRangePart range book.old.plain (W.contents out.old) (W.contents out.new))) (state D.Store conn.new)) }
 {
     asides.before(book, line);
-    let (alloc, time) = (rt.alloc(), milliseconds(rt));
+    let (alloc, time) = (rt.alloc(), rt.milliseconds());
     let taken = match take_range(alloc, conn, time, book, boxes, range, out) {
         Ok(taken) => taken,
         Err(fault) => return Err(Broken::of_range(fault)),
@@ -226,7 +225,7 @@ fn take_now<
 // Takes a range of changes out if a line spells one, and else does what the line asks.
 fn hear<
     D: Alter,
-    R: FileReader + Clock + AllocGlobal,
+    R: FileReader + Databases + AllocGlobal,
     K: MapKind,
     S: Supply<K>,
     B: MakeBox<K>,
@@ -271,7 +270,7 @@ fn hear<
 /// has them; and Open if the book is not opened again. What was answered before stands on the output, and is on the disk.
 pub(crate) fn keep_talk<
     D: Alter,
-    R: FileReader + Terminal + Eprint + Clock + AllocGlobal,
+    R: FileReader + Terminal + Eprint + Databases + AllocGlobal,
     K: MapKind,
     S: Supply<K>,
     B: MakeBox<K>,

@@ -55,6 +55,10 @@ HasEntries new t s es = ((s.now.schema ≡ no_schema) × (t ≡ new) × (es ≡ 
 abbrev pub AddsToBook : PlainTerms → ℕ → State → State → Type 0
 AddsToBook terms time old new = HasCleanDisk new → WasReady old → (t : PlainTerms) (es : List Entry) → HasEntries terms t old es → HasMore time t es new
 
+-- and this is a time that a clock may tell
+abbrev pub AddsNow : PlainTerms → (ℕ → Type 0) → State → State → Type 0
+AddsNow terms may_be_time old new = (time : ℕ) × may_be_time time × AddsToBook terms time old new
+
 -- no line was run
 pub record IsNotRun (terms : PlainTerms) (old new : State) (out_old out_new : Option (List ℕ)) : Type 0 where
   pub unwritten : out_new ≡ out_old

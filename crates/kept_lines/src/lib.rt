@@ -11,7 +11,7 @@
 //!
 //! [`begin`] opens the book of a database, or makes it in one that has no table; `specs/Begun` says which book that is. Where the
 //! databases of files are opened is a trait's, [`Databases`], of which contracts say what may be found there; the runtime is one,
-//! and [`open_waiting`] waits for a file that is in use.
+//! and waits for a file that is in use.
 #![tactic(auto)]
 
 mod asides;
@@ -30,7 +30,6 @@ mod line;
 mod note;
 mod range;
 mod script;
-mod time;
 mod words;
 
 pub use asides::Asides;
@@ -39,12 +38,11 @@ pub use boxes::HostBoxes;
 pub use choice::chosen;
 pub use console_script::{Summary, Supply, Tally};
 pub use console_text::Output;
-pub use databases::{Database, Databases, open_waiting};
+pub use databases::{Database, Databases};
 pub use dialogue::KeptDialogue;
 pub use fault::{InFileFault, KeptFault, LinesFault};
 pub use hints::{Hints, Wrong, wrong_in};
 pub use kept_file::KeepFault;
 pub use range::{SerialRange, range_of};
 pub use script::{keep_events, keep_lines};
-pub use time::milliseconds;
 pub use words::{put_read, put_unkept, put_unread};

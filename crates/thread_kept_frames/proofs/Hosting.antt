@@ -1,7 +1,8 @@
 -- A script on the book that was begun, and frames that are served on the book that it left.
-use Rattle.std.proofs.Common.{◌≡◌, ℕ, List, length, Option, Ok, Err, refl}
+use Rattle.std.proofs.Common.{◌≡◌, ℕ, List, length, Option, Result, Ok, Err, refl}
 use Rattle.std.specs.Io.KnownBytes.{Appends, Keeps}
 use Rattle.sqlite.specs.State.{State, HasCleanDisk}
+use Rattle.sqlite.specs.declared.error.Error.{Error}
 use Rattle.journal_model.specs.Book.{PlainBook}
 use Rattle.bt_journal.specs.BookView.{BookView}
 use Rattle.bt_syntax.specs.declared.files.FileText.{FileText}
@@ -101,15 +102,16 @@ module _ (terms : PlainTerms) (files : List FileText) (script : List ℕ) (all :
       }
 
 -- if nothing more was written after it
-pub opened_kept : (may_open : Database → Type 0) (terms : PlainTerms) (files : List FileText) (script frames : List ℕ) (old mid new : Option (List ℕ)) (it : ServedHost)
-    → ServesOpened may_open terms files script frames old mid (Ok it) → Keeps mid new → ServesOpened may_open terms files script frames old new (Ok it)
-opened_kept may_open terms files script frames old mid new it done kept = record {
+pub opened_kept : (may_open : Result Database Error → Type 0) (may_be_time : ℕ → Type 0) (terms : PlainTerms) (files : List FileText) (script frames : List ℕ) (old mid new : Option (List ℕ)) (it : ServedHost)
+    → ServesOpened may_open may_be_time terms files script frames old mid (Ok it) → Keeps mid new → ServesOpened may_open may_be_time terms files script frames old new (Ok it)
+opened_kept may_open may_be_time terms files script frames old mid new it done kept = record {
   all = done.all;
   in_file = done.in_file;
   old = done.old;
   new = done.new;
   opened = done.opened;
   ready = done.ready;
+  times = done.times;
   went = record {
     book = done.went.book;
     begins = done.went.begins;

@@ -1,8 +1,9 @@
 -- A script on a kept book, and frames that are served on the book that it left: what is written, and what is then on the disk.
-use Rattle.std.specs.Prelude.{◌≡◌, ℕ, List, length, Option, Result, Ok, Err}
+use Rattle.std.specs.Prelude.{◌≡◌, ℕ, List, length, Option, Result, Ok, Err, OnOk}
 use Rattle.std.specs.Io.KnownBytes.{Appends}
 use Rattle.sqlite.specs.State.{State, HasCleanDisk}
 use Rattle.sqlite.specs.Files.{file_state}
+use Rattle.sqlite.specs.declared.error.Error.{Error}
 use Rattle.journal_model.specs.Book.{PlainBook}
 use Rattle.bt_syntax.specs.declared.files.FileText.{FileText}
 use Rattle.console_script.specs.Transcript.{RanAll}
@@ -12,7 +13,7 @@ use Rattle.thread_frames.specs.declared.frame.FrameIn.{FrameIn}
 use Rattle.thread_host_run.specs.FramesOf.{AreFramesOf}
 use Rattle.thread_host_run.specs.HostRuns.{AreToldOf}
 use Rattle.kept_ledger.specs.TermsView.{PlainTerms}
-use Rattle.kept_lines.specs.Begun.{WasReady, HasBook, IsNotRun, IsNotOpened}
+use Rattle.kept_lines.specs.Begun.{WasReady, HasBook, IsNotRun, IsNotOpened, AddsNow}
 use Rattle.kept_lines.specs.Kept.{IsOnDisk, Stops as LinesStop, script_on}
 use Rattle.kept_lines.specs.declared.databases.Database.{Database}
 use Rattle.kept_lines.specs.declared.fault.KeptFault.TheVariants.{Open, Make, Lines}
@@ -74,19 +75,20 @@ module _ (terms : PlainTerms) (files : List FileText) (script : List ℕ) (all :
 
 -- ---- on the book of a file
 -- these frames stand in a file, and on a connection that was opened script and frames went so
-pub record ServesOpened (may_open : Database → Type 0) (terms : PlainTerms) (files : List FileText) (script frames : List ℕ) (out_old out_new : Option (List ℕ)) (result : Result ServedHost HostRunFault) : Type 0 where
+pub record ServesOpened (may_open : Result Database Error → Type 0) (may_be_time : ℕ → Type 0) (terms : PlainTerms) (files : List FileText) (script frames : List ℕ) (out_old out_new : Option (List ℕ)) (result : Result ServedHost HostRunFault) : Type 0 where
   pub all : List FrameIn
   pub in_file : AreFramesOf frames all
   pub old : Database
   pub new : Database
-  pub opened : may_open old
+  pub opened : may_open (Ok old)
   pub ready : WasReady (file_state old.conn)
   pub went : ServesKept terms files script all (file_state old.conn) (file_state new.conn) out_old out_new result
+  pub times : OnOk result (AddsNow terms may_be_time (file_state old.conn) (file_state new.conn))
 
 -- or the file was not opened, and no line was run; if the bytes are frames of no file, it was not asked for
-abbrev pub ServesInFile : (Database → Type 0) → PlainTerms → List FileText → List ℕ → List ℕ → Option (List ℕ) → Option (List ℕ) → Result ServedHost HostInFileFault → Type 0
-ServesInFile may_open terms files script frames out_old out_new (Ok it) = ServesOpened may_open terms files script frames out_old out_new (Ok it)
-ServesInFile may_open terms files script frames out_old out_new (Err in_file.BadFrames) = ((all : List FrameIn) → AreFramesOf frames all → ⊥) × (out_new ≡ out_old)
-ServesInFile may_open terms files script frames out_old out_new (Err in_file.NoMemory) = out_new ≡ out_old
-ServesInFile may_open terms files script frames out_old out_new (Err (in_file.Unopened error)) = out_new ≡ out_old
-ServesInFile may_open terms files script frames out_old out_new (Err (in_file.Kept fault)) = ServesOpened may_open terms files script frames out_old out_new (Err fault)
+abbrev pub ServesInFile : (Result Database Error → Type 0) → (ℕ → Type 0) → PlainTerms → List FileText → List ℕ → List ℕ → Option (List ℕ) → Option (List ℕ) → Result ServedHost HostInFileFault → Type 0
+ServesInFile may_open may_be_time terms files script frames out_old out_new (Ok it) = ServesOpened may_open may_be_time terms files script frames out_old out_new (Ok it)
+ServesInFile may_open may_be_time terms files script frames out_old out_new (Err in_file.BadFrames) = ((all : List FrameIn) → AreFramesOf frames all → ⊥) × (out_new ≡ out_old)
+ServesInFile may_open may_be_time terms files script frames out_old out_new (Err in_file.NoMemory) = out_new ≡ out_old
+ServesInFile may_open may_be_time terms files script frames out_old out_new (Err (in_file.Unopened error)) = may_open (Err error) × (out_new ≡ out_old)
+ServesInFile may_open may_be_time terms files script frames out_old out_new (Err (in_file.Kept fault)) = ServesOpened may_open may_be_time terms files script frames out_old out_new (Err fault)

@@ -10,10 +10,9 @@ use bt_syntax::Script;
 use console_script::HostKind;
 use console_text::Output;
 use kept_file::Terms;
-use kept_lines::{Databases, Hints, milliseconds, open_waiting};
+use kept_lines::{Databases, Hints};
 use std::sync::Wait;
 use std::thread::Threads;
-use std::time::Clock;
 use thread_host_run::RunHostFault;
 
 /// Runs the lines of a script on the book that the file of this path keeps, and then has two workers serve the frames that the bytes
@@ -24,7 +23,7 @@ use thread_host_run::RunHostFault;
 /// `BadFrames` if the bytes are neither lines that spell frames nor a capture, `NoMemory` if there is none for the frames, and
 /// `Unopened` where the file is not opened: after each of these no line was run. Else those of [`serve_kept`].
 pub fn serve_in_file<
-    R: Databases + Clock + AllocGlobal + Threads + Wait + Sync,
+    R: Databases + AllocGlobal + Threads + Wait + Sync,
     H: Hints<HostKind, W>,
     W: Output,
 >(
@@ -37,7 +36,7 @@ pub fn serve_in_file<
     hints: &mut H,
     out: &mut W,
 ) -> Result<ServedHost, HostInFileFault>
-    ensures { ServesInFile (R.may_open rt.now path.now) terms script.now.files.items script.now.text.items frames.now (W.contents out.old) (W.contents out.new) result }
+    ensures { ServesInFile (R.may_open rt.now path.now seconds) (R.may_be_time rt.now) terms script.now.files.items script.now.text.items frames.now (W.contents out.old) (W.contents out.new) result }
 {
     let alloc = rt.alloc();
     let all = match read_frames(alloc, frames) {
@@ -45,11 +44,11 @@ pub fn serve_in_file<
         Err(RunHostFault::BadFrames) => return Err(HostInFileFault::BadFrames),
         Err(_) => return Err(HostInFileFault::NoMemory),
     };
-    let mut it = match open_waiting(rt, path, seconds) {
+    let mut it = match rt.open_database(path, seconds) {
         Ok(it) => it,
         Err(error) => return Err(HostInFileFault::Unopened(error)),
     };
-    let (conn, time) = (&mut it.conn, milliseconds(rt));
+    let (conn, time) = (&mut it.conn, rt.milliseconds());
     let served = serve_kept(rt, alloc, conn, time, terms, script, all, hints, out);
     let _ = rt.close_database(it);
     match served {

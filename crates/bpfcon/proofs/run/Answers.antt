@@ -11,7 +11,7 @@ returns-clause-ran g c =
     let may_name = g.R.Surroundings.may_name c.args.rt.now in
     let may_read = g.R.FileReader.may_read c.args.rt.now in
     flushed_so _ c.flush.result c.flushed.result c.answer_request-out.result.1 c.flushed.ensures
-    (did_asked _ _ _ _ may_be may_name may_read c.in-Ok.request _ _ c.answer_request-out.result.1 (rw c.in-Ok.is at c.request_of_args.ensures) c.answer_request-out.ensures.ran)
+    (did_asked _ _ _ _ _ _ may_be may_name may_read c.in-Ok.request _ _ c.answer_request-out.result.1 (rw c.in-Ok.is at c.request_of_args.ensures) c.answer_request-out.ensures.ran)
 
 pub returns-clause-only : goal.returns-clause-only
 returns-clause-only g c =

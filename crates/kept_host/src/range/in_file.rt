@@ -7,15 +7,14 @@ use crate::range::taken::Taken;
 use console_script::HostKind;
 use console_text::Output;
 use kept_file::Terms;
-use kept_lines::{Asides, Databases, InFileFault, SerialRange, milliseconds, open_waiting};
-use std::time::Clock;
+use kept_lines::{Asides, Databases, InFileFault, SerialRange};
 
 /// Takes the range of changes that a line spells out of the book that the file of this path keeps, or none of them, as
 /// [`take_kept`] does on a connection to it. A file that is not there is made. For one that is in use it waits so many seconds.
 ///
 /// # Errors
 /// Unopened if the file is not opened, and then nothing was done, and those of [`take_kept`].
-pub fn take_in_file<R: Databases + Clock + AllocGlobal, A: Asides<HostKind, W>, W: Output>(
+pub fn take_in_file<R: Databases + AllocGlobal, A: Asides<HostKind, W>, W: Output>(
     rt: &R,
     path: &str,
     seconds: u32,
@@ -25,13 +24,13 @@ pub fn take_in_file<R: Databases + Clock + AllocGlobal, A: Asides<HostKind, W>, 
     asides: &mut A,
     out: &mut W,
 ) -> Result<Taken, InFileFault>
-    ensures { TakesInFile (R.may_open rt.now path.now) terms range (W.contents out.old) (W.contents out.new) result }
+    ensures { TakesInFile (R.may_open rt.now path.now seconds) (R.may_be_time rt.now) terms range (W.contents out.old) (W.contents out.new) result }
 {
-    let mut it = match open_waiting(rt, path, seconds) {
+    let mut it = match rt.open_database(path, seconds) {
         Ok(it) => it,
         Err(error) => return Err(InFileFault::Unopened(error)),
     };
-    let time = milliseconds(rt);
+    let time = rt.milliseconds();
     let alloc = rt.alloc();
     let conn = &mut it.conn;
     let taken = take_kept(alloc, conn, time, terms, line, range, asides, out);

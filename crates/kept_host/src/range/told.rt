@@ -10,27 +10,6 @@ use console_answer::{Fault, Mishap};
 use console_text::Output;
 use kept_lines::{Asides, Wrong};
 
-// Tells why no change is taken out that a line names.
-fn told_why<K: MapKind, A: Asides<K, W>, W: Output>(
-    asides: &mut A,
-    book: &mut Book<K>,
-    number: u64,
-    line: &[u8],
-    fault: Fault,
-    out: &mut W,
-)
-    ensures same { book.new.plain ≡ book.old.plain }
-    ensures kept { Keeps (W.contents out.old) (W.contents out.new) }
-{
-    let wrong = Wrong {
-        number,
-        line,
-        accepted: 0,
-        mishap: Mishap::Refused(fault),
-    };
-    asides.tell(book, &[], wrong, out);
-}
-
 /// Tells what became of the changes that a line of this number names: what was taken out, or why none is.
 pub(crate) fn told<K: MapKind, A: Asides<K, W>, W: Output>(
     asides: &mut A,
@@ -43,9 +22,19 @@ pub(crate) fn told<K: MapKind, A: Asides<K, W>, W: Output>(
     ensures same { book.new.plain ≡ book.old.plain }
     ensures kept { Keeps (W.contents out.old) (W.contents out.new) }
 {
-    match taken {
-        Taken::All(_) => asides.turned(book),
-        Taken::NoneInForce => told_why(asides, book, number, line, Fault::NotInForce, out),
-        Taken::Refused(fault) => told_why(asides, book, number, line, fault, out),
-    }
+    let fault = match taken {
+        Taken::All(_) => {
+            asides.turned(book);
+            return;
+        }
+        Taken::NoneInForce => Fault::NotInForce,
+        Taken::Refused(fault) => fault,
+    };
+    let wrong = Wrong {
+        number,
+        line,
+        accepted: 0,
+        mishap: Mishap::Refused(fault),
+    };
+    asides.tell(book, &[], wrong, out);
 }

@@ -12,7 +12,7 @@ returns-in-Ok-tell_frames-clause-ran g c = record {
   bytes = c.in_ok-bytes.bytes.items;
   read = c.in_ok-bytes.ensures.ran;
   it = c.in-Ok.served;
-  served = opened_kept _ _ _ _ _ _ _ _ c.in-Ok.served (rw (c.as_str-at.ensures.value, c.as_slice.ensures.value, c.in_ok-terms.ensures) at c.in-Ok.ensures) c.tell_frames.ensures.written;
+  served = opened_kept _ _ _ _ _ _ _ _ _ c.in-Ok.served (rw (c.as_str-at.ensures.value, c.as_slice.ensures.value, c.in_ok-terms.ensures) at c.in-Ok.ensures) c.tell_frames.ensures.written;
   counts = refl;
 }
 

@@ -13,4 +13,4 @@ returns-in-Ok-looked g c =
 pub returns-in-Err-looked : goal.returns-in-Err-looked
 returns-in-Err-looked g c =
     look_stops c.args.terms c.args.look.now (state g.D.Store c.args.conn.now) (g.W.Output.contents c.args.out.now) (state g.D.Store c.begin.new.conn) (g.W.Output.contents c.look_now-looked.new.out) c.in-Ok.book c.in-Ok.ensures.begins
-    c.in-Err-looked.fault c.in-Err-looked.ensures.front
+    c.in-Err-looked.fault c.in-Err-looked.ensures.only c.in-Err-looked.ensures.front
