@@ -5,5 +5,5 @@ pub mod TakingSteps
 pub mod Together
 pub mod RangeKept
 pub mod OnBook
-mod RangeTalk
-mod Talking
+pub mod RangeTalk
+pub mod Talking

@@ -36,10 +36,10 @@ use Rattle.kept_host.specs.Talks.{StaysOnDisk, HasComeKept, TalkedThrough, IsBeg
 use Rattle.kept_host.proofs.RangeTalk.{come_if, come_kept_so}
 
 -- a database of one of some books is one of others, if they are all among those
-holds_so : (t : PlainTerms) (P Q : PlainBook → Type 0) (s : State) → ((b : PlainBook) → P b → Q b) → LeavesOnly (HoldsOne t P) s → LeavesOnly (HoldsOne t Q) s
+pub holds_so : (t : PlainTerms) (P Q : PlainBook → Type 0) (s : State) → ((b : PlainBook) → P b → Q b) → LeavesOnly (HoldsOne t P) s → LeavesOnly (HoldsOne t Q) s
 holds_so t P Q s implies only db may = let it : HoldsOne t P db = only db may in record { book = it.book; is = implies it.book it.is; holds = it.holds }
 
-holds_one : (t : PlainTerms) (P : PlainBook → Type 0) (s : State) (b : PlainBook) → P b → LeavesOnly (HoldsBook t b) s → LeavesOnly (HoldsOne t P) s
+pub holds_one : (t : PlainTerms) (P : PlainBook → Type 0) (s : State) (b : PlainBook) → P b → LeavesOnly (HoldsBook t b) s → LeavesOnly (HoldsOne t P) s
 holds_one t P s b is only db may = record { book = b; is = is; holds = only db may }
 
 -- ---- a line that was not answered

@@ -25,11 +25,14 @@ pub enum TalkFault {
     Unread(ReadFault),
 }
 
-// Why the lines of a dialogue were not all answered.
-#[derive(Clone, Copy)]
-pub(crate) enum Broken {
+/// Why the lines of a dialogue on a kept book were not all answered.
+#[derive(Clone, Copy, Debug)]
+pub enum Broken {
+    /// What a line did is not kept, or not answered to the last.
     Lines(LinesFault),
+    /// The book was ahead of its database after a range that was refused, and was not opened again.
     Open(OpenFault),
+    /// A line was not read, or there is no memory for it or for a file that it names.
     Unread(ReadFault),
 }
 

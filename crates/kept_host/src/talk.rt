@@ -222,8 +222,14 @@ fn take_now<
     Ok(())
 }
 
-// Takes a range of changes out if a line spells one, and else does what the line asks.
-fn hear<
+/// Answers one line of a dialogue on a kept book, which has this number. A line that spells a range takes its changes out, one that
+/// asks for help or for a look gets it, and any other is done, with the files that it names, as they are now. What it did is on the
+/// disk, and then it is answered.
+///
+/// # Errors
+/// Unread if there is no memory for a file; Lines, as a script has them; and Open if the book is not opened again after a range that
+/// was refused. The book may then be ahead of its database, and of no use.
+pub fn hear<
     D: Alter,
     R: FileReader + Databases + AllocGlobal,
     K: MapKind,
