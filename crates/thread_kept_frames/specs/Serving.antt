@@ -32,6 +32,30 @@ IsUnserved all NoMemory = ⊤
 IsUnserved all NoThread = ⊤
 IsUnserved all (Lines why) = ⊥
 
+-- ---- frames of whose ends nothing is written yet
+-- the book before the frames, or one after all of them
+abbrev pub BeforeOrServed : List FrameIn → PlainBook → PlainBook → Type 0
+BeforeOrServed all b left = (left ≡ b) ⊎ ((ends : List FrameResult) × AreServed b all ends left)
+
+-- by what says that their book with some terms was on the disk when it began
+module _ (all : List FrameIn) (b : PlainBook) (Began : PlainTerms → Type 0) (new : State) where
+  -- none was served, or nothing is kept of them
+  pub record PortionUnserved (fault : ServeFault) : Type 0 where
+    pub why : IsUnserved all fault
+    pub disk : HasCleanDisk new → (t : PlainTerms) → Began t → IsOnDisk t new b
+
+  -- all were served, and that is not kept
+  pub record PortionUnkept : Type 0 where
+    pub ends : List FrameResult
+    pub left : PlainBook
+    pub served : AreServed b all ends left
+    pub disk : HasCleanDisk new → (t : PlainTerms) → Began t → IsCut t new b left
+
+  abbrev pub StopsPortion : ServeFault → Type 0
+  StopsPortion (Lines (CannotKeep why)) = PortionUnkept
+  StopsPortion (Lines Write) = ⊥
+  StopsPortion fault = PortionUnserved fault
+
 -- ---- what a crash leaves
 -- the book before the frames, if nothing was written; or one after all of them, of whose ends this was written, or a front of it
 abbrev pub BeforeOrAfter : List FrameIn → PlainBook → Option (List ℕ) → Option (List ℕ) → PlainBook → Type 0

@@ -1,9 +1,9 @@
 //! Frames on a book that is kept in a database: two workers serve them, what that changed is kept in one transaction, and then
 //! the end of each frame is written.
 //!
-//! [`keep_frames`] does so with the frames that [`read_frames`] reads. No call of a worker and no order of their calls is stored:
-//! what they changed stands in the book in the order of its serials, and leads to the same book when it is done again
-//! ([`laws`]). What the reader has seen if the frames are not kept stands in `specs/Serving`.
+//! [`keep_frames`] does so with the frames that [`read_frames`] reads, and [`keep_portion`] all of it but the writing. No call of a
+//! worker and no order of their calls is stored: what they changed stands in the book in the order of its serials, and leads to the
+//! same book when it is done again ([`laws`]). What the reader has seen if the frames are not kept stands in `specs/Serving`.
 //!
 //! [`serve_kept`] runs a script on the book of a database first, and [`serve_in_file`] on that of the file of a path; what both
 //! come to stands in `specs/Hosts`.
@@ -21,6 +21,7 @@ mod words;
 pub use fault::ServeFault;
 pub use host_fault::{HostInFileFault, HostRunFault};
 pub use in_file::serve_in_file;
-pub use keeping::{keep_frames, read_frames};
+pub use keeping::{keep_frames, keep_portion, read_frames};
 pub use kept::{ServedHost, serve_kept};
 pub use kept_lines::LinesFault;
+pub use serve::Served;

@@ -14,11 +14,14 @@ use std::sync::Wait;
 use std::thread::Threads;
 use thread_host_run::serve_frames;
 
-/// A book on which frames were served, the end of each, and the text of the ends.
-pub(crate) struct Served<K: MapKind> {
-    pub(crate) book: Book<K>,
-    pub(crate) ends: Vec<FrameResult>,
-    pub(crate) text: Vec<u8>,
+/// A book on which frames were served, and how they ended.
+#[derive(Drop)]
+pub struct Served<K: MapKind> {
+    pub book: Book<K>,
+    /// The end of each frame, by ascending number.
+    pub ends: Vec<FrameResult>,
+    /// What there is to write of the ends: `frame N TEXT` for each, and `moments N` at last.
+    pub text: Vec<u8>,
 }
 
 /// Has two workers serve frames on a book: the book that they left, and the ends with their text. Takes memory.
