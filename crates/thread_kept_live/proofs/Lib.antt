@@ -1,0 +1,4 @@
+mod Heeding
+mod Copying
+mod PortionLemmas
+pub mod Turns

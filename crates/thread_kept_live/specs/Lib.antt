@@ -1,0 +1,4 @@
+pub mod Courses
+pub mod Portions
+pub mod Hearing
+pub mod Living
