@@ -10,7 +10,7 @@ use thread_rounds::Tally;
 
 /// What the workers do.
 #[derive(Clone, Copy, PartialEq, Eq, Debug)]
-pub(crate) enum State {
+pub enum State {
     /// They serve frames.
     Running,
     /// They have done all their passes.
@@ -21,15 +21,19 @@ pub(crate) enum State {
 
 /// What is told of the workers.
 #[derive(Clone, Copy, Debug)]
-pub(crate) struct Report {
-    pub(crate) workers: u64,
-    pub(crate) state: State,
-    pub(crate) tally: Tally,
-    /// How many moments are in force, and how many there can be.
-    pub(crate) moments: u64,
-    pub(crate) most_moments: u64,
+pub struct Report {
+    /// How many there are.
+    pub workers: u64,
+    /// What they do.
+    pub state: State,
+    /// How many frames have ended, and how.
+    pub tally: Tally,
+    /// How many moments are in force.
+    pub moments: u64,
+    /// How many there can be.
+    pub most_moments: u64,
     /// Frames a second since they were last asked.
-    pub(crate) rate: Option<u64>,
+    pub rate: Option<u64>,
 }
 
 /// How many frames ended in one way.
@@ -225,7 +229,10 @@ fn put_behind<W: Output>(out: &mut W, report: &Report) -> Result<(), WriteFault>
 
 /// Writes what is told of the workers: their number and what they do, how many frames ended and how, each number but 0 on a
 /// line, how many moments are in force of how many there can be, and the rate.
-pub(crate) fn put_report<W: Output>(out: &mut W, report: &Report) -> Result<(), WriteFault>
+///
+/// # Errors
+/// `WriteFault` if a write fails or takes no byte. A front of it may have been written.
+pub fn put_report<W: Output>(out: &mut W, report: &Report) -> Result<(), WriteFault>
     ensures text { Writes (W.contents out.old) (W.contents out.new) result (report_text report.now) }
     ensures refused { OnErr result (W.has_refused out.new) }
 {
