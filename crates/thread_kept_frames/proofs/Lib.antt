@@ -1,3 +1,7 @@
 pub mod OfFrames
 pub mod Disk
 pub mod Hosting
+mod Heeding
+mod Copying
+mod PortionLemmas
+pub mod Turns

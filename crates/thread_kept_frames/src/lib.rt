@@ -7,6 +7,9 @@
 //!
 //! [`serve_kept`] runs a script on the book of a database first, and [`serve_in_file`] on that of the file of a path; what both
 //! come to stands in `specs/Hosts`.
+//!
+//! [`keep_live`] answers the lines of a dialogue on a kept book, and serves frames while none has come: portions of the frames of a
+//! [`Flow`], each on the disk whole or not at all. What that comes to stands in `specs/Living`.
 #![tactic(auto)]
 
 mod fault;
@@ -15,6 +18,7 @@ mod in_file;
 mod keeping;
 mod kept;
 pub mod laws;
+mod live;
 mod serve;
 mod words;
 
@@ -24,4 +28,9 @@ pub use in_file::serve_in_file;
 pub use keeping::{keep_frames, keep_portion, read_frames};
 pub use kept::{ServedHost, serve_kept};
 pub use kept_lines::LinesFault;
+pub use live::course::{Course, MOST_PORTION};
+pub use live::fault::LiveFault;
+pub use live::flow::Flow;
+pub use live::lines::{Heard, Lines, Ready};
+pub use live::{Lived, keep_live};
 pub use serve::Served;

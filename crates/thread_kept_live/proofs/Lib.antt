@@ -1,4 +1,0 @@
-mod Heeding
-mod Copying
-mod PortionLemmas
-pub mod Turns

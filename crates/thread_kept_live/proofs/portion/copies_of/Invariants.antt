@@ -1,6 +1,0 @@
-use Rattle.std.proofs.Common.{◌≡◌, map, take}
-use Rattle.thread_kept_live.specs.Portions.{content_of}
-use Rattle.thread_kept_live.proofs.portion.copies_of.Given as goal
-
-abbrev pub invariant-loop-frame : goal.invariant-loop-frame
-invariant-loop-frame l = map content_of l.copies.items ≡ map content_of (take l.frame-index l.frames)

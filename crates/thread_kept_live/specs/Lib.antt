@@ -1,4 +1,0 @@
-pub mod Courses
-pub mod Portions
-pub mod Hearing
-pub mod Living
