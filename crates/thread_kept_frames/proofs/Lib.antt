@@ -5,3 +5,4 @@ mod Heeding
 mod Copying
 mod PortionLemmas
 pub mod Turns
+mod LiveHosting

@@ -16,6 +16,7 @@ use Rattle.kept_ledger.specs.TermsView.{PlainTerms}
 use Rattle.kept_lines.specs.Begun.{WasReady, HasBook, IsNotRun, IsNotOpened, AddsNow}
 use Rattle.kept_lines.specs.Kept.{IsOnDisk, Stops as LinesStop, script_on}
 use Rattle.kept_lines.specs.declared.databases.Database.{Database}
+use Rattle.kept_lines.specs.declared.fault.KeptFault.{KeptFault}
 use Rattle.kept_lines.specs.declared.fault.KeptFault.TheVariants.{Open, Make, Lines}
 use Rattle.kept_lines.specs.declared.fault.LinesFault.{LinesFault}
 use Rattle.thread_kept_frames.specs.Serving.{Stops}
@@ -66,11 +67,15 @@ module _ (terms : PlainTerms) (files : List FileText) (script : List ℕ) (all :
     pub ran : RanAll out_old between book AllGetNew files script left summary
     pub stops : Stops all left (HadBook terms old book) new between out_new fault
 
+  -- the book was not begun, or not all lines were run on it: no frame was served
+  abbrev pub StopsBeforeFrames : KeptFault → Type 0
+  StopsBeforeFrames (Open why) = IsNotOpened terms old new out_old out_new why
+  StopsBeforeFrames (Make error) = IsNotRun terms old new out_old out_new
+  StopsBeforeFrames (Lines why) = StopsInScript why
+
   abbrev pub ServesKept : Result ServedHost HostRunFault → Type 0
   ServesKept (Ok it) = ServedKept it
-  ServesKept (Err (Script (Open why))) = IsNotOpened terms old new out_old out_new why
-  ServesKept (Err (Script (Make error))) = IsNotRun terms old new out_old out_new
-  ServesKept (Err (Script (Lines why))) = StopsInScript why
+  ServesKept (Err (Script fault)) = StopsBeforeFrames fault
   ServesKept (Err (Frames fault)) = StopsInFrames fault
 
 -- ---- on the book of a file

@@ -5,3 +5,4 @@ pub mod Courses
 pub mod Portions
 pub mod Hearing
 pub mod Living
+pub mod Lives

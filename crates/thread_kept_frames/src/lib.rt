@@ -9,7 +9,8 @@
 //! come to stands in `specs/Hosts`.
 //!
 //! [`keep_live`] answers the lines of a dialogue on a kept book, and serves frames while none has come: portions of the frames of a
-//! [`Flow`], each on the disk whole or not at all. What that comes to stands in `specs/Living`.
+//! [`Flow`], each on the disk whole or not at all. What that comes to stands in `specs/Living`. [`live_kept`] runs a setup on the book
+//! of a database first, and [`live_in_file`] on that of the file of a path; what both come to stands in `specs/Lives`.
 #![tactic(auto)]
 
 mod fault;
@@ -29,8 +30,10 @@ pub use keeping::{keep_frames, keep_portion, read_frames};
 pub use kept::{ServedHost, serve_kept};
 pub use kept_lines::LinesFault;
 pub use live::course::{Course, MOST_PORTION};
-pub use live::fault::LiveFault;
+pub use live::fault::{LiveFault, LiveHostFault, LiveInFileFault};
 pub use live::flow::Flow;
+pub use live::in_file::live_in_file;
+pub use live::kept::{LivedHost, live_kept};
 pub use live::lines::{Heard, Lines, Ready};
 pub use live::{Lived, keep_live};
 pub use serve::Served;

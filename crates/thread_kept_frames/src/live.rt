@@ -32,6 +32,8 @@ mod counted;
 pub(crate) mod course;
 pub(crate) mod fault;
 pub(crate) mod flow;
+pub(crate) mod in_file;
+pub(crate) mod kept;
 pub(crate) mod lines;
 mod pace;
 mod portion;
