@@ -4,5 +4,6 @@ pub mod Hosts
 pub mod Courses
 pub mod Portions
 pub mod Hearing
+pub mod Spoken
 pub mod Living
 pub mod Lives

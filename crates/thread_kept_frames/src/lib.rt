@@ -10,7 +10,8 @@
 //!
 //! [`keep_live`] answers the lines of a dialogue on a kept book, and serves frames while none has come: portions of the frames of a
 //! [`Flow`], each on the disk whole or not at all. What that comes to stands in `specs/Living`. [`live_kept`] runs a setup on the book
-//! of a database first, and [`live_in_file`] on that of the file of a path; what both come to stands in `specs/Lives`.
+//! of a database first, and [`live_in_file`] on that of the file of a path; what both come to stands in `specs/Lives`. [`listen`] has a
+//! thread of its own read the lines of standard input, so that frames are served while none comes.
 #![tactic(auto)]
 
 mod fault;
@@ -35,5 +36,6 @@ pub use live::flow::Flow;
 pub use live::in_file::live_in_file;
 pub use live::kept::{LivedHost, live_kept};
 pub use live::lines::{Heard, Lines, Ready};
+pub use live::listener::{ListenFault, Listener, listen};
 pub use live::{Lived, keep_live};
 pub use serve::Served;

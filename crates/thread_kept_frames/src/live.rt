@@ -35,8 +35,10 @@ pub(crate) mod flow;
 pub(crate) mod in_file;
 pub(crate) mod kept;
 pub(crate) mod lines;
+pub(crate) mod listener;
 mod pace;
 mod portion;
+mod spoken;
 
 use crate::fault::ServeFault;
 use crate::live::course::Course;

@@ -1,5 +1,8 @@
 use Rattle.sqlite.specs.Held.{state}
 use Rattle.console_script.proofs.Supplied.{all_get_new}
+use Rattle.kept_lines.specs.declared.fault.LinesFault.TheVariants.{Write}
+use Rattle.kept_host.specs.declared.fault.Broken.TheVariants as broken
+use Rattle.thread_kept_frames.specs.declared.live.fault.LiveFault.TheVariants.{Line}
 use Rattle.thread_kept_frames.proofs.Hosting.{not_begun, script_stops}
 use Rattle.thread_kept_frames.proofs.LiveHosting.{lived_kept, live_stopped, live_unasked}
 use Rattle.thread_kept_frames.proofs.live.kept.live_kept.Goals as goal
@@ -20,7 +23,7 @@ returns-in-Err-flush_all-clause-lives g c = rw c.unwritten.ensures
     (live_unasked c.args.terms c.args.setup.now.files.items c.args.setup.now.text.items c.args.flow.now.frames.items c.args.flow.now.passes (g.R.FileReader.may_read c.args.rt.now) (g.L.Lines.remaining c.args.lines.now)
     (state g.D.Store c.args.conn.now) (g.W.Output.contents c.args.out.now) (state g.D.Store c.begin.new.conn) c.in-Ok.book c.in-Ok.ensures.begins _ (λ run. all_get_new _ _ (λ from attr told to it. it) _ _ run)
     (state g.D.Store c.keep_lines-ran.new.conn) (g.W.Output.contents c.keep_lines-ran.new.out) (g.W.Output.contents c.flush_all.new.self) c.keep_lines-ran.new.book.plain c.in-Ok-ran.counts c.keep_lines-ran.ensures.clean
-    c.in-Ok-ran.ensures.kept c.in-Ok-ran.ensures.ran c.flush_all.ensures.bytes _)
+    c.in-Ok-ran.ensures.kept c.in-Ok-ran.ensures.ran c.flush_all.ensures.bytes (Line (broken.Lines Write)))
 
 -- ---- lines were answered
 pub returns-in-Ok-keep_live-clause-lives : goal.returns-in-Ok-keep_live-clause-lives
