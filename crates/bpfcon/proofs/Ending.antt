@@ -8,7 +8,7 @@ use Rattle.thread_host_run.specs.declared.fault.RunHostFault.TheVariants as serv
 use Rattle.console_input.specs.declared.fault.ReadFault.{ReadFault}
 use Rattle.console_input.specs.declared.fault.ReadFault.TheVariants as read
 use Rattle.bpfcon.specs.declared.fault.Fault.{Fault}
-use Rattle.bpfcon.specs.declared.fault.Fault.TheVariants.{Usage, Command, NoWord, NotOfBook, BadBook, Unread, BadFrames, NoMemory, NoThread, Spent, OfFile, OfFrames, OfLog, CannotWrite}
+use Rattle.bpfcon.specs.declared.fault.Fault.TheVariants.{Usage, Command, NoWord, NotOfBook, BadBook, Unread, BadFrames, NoMemory, NoThread, Spent, OfFile, OfFrames, OfLive, OfLog, CannotWrite}
 use Rattle.bpfcon.specs.Faults.{fault_of_line, IsOfRead, IsNoFrames, IsOfServing}
 use Rattle.bpfcon.specs.Ends.{EndsPart, EndsReading, EndsLines, EndsFrames, EndsLive, EndsBook}
 
@@ -40,6 +40,7 @@ module _ {r r' f f' l l' b b' : Type 0} (refused : r → r') (frames : f → f')
   more NotOfBook ends = elim ends [ ]
   more BadBook ends = elim ends [ ]
   more (OfFrames _ _) ends = elim ends [ ]
+  more (OfLive _ _) ends = elim ends [ ]
 
 module _ (refused : Type 0) where
   -- a write that failed ends lines if the output has refused it

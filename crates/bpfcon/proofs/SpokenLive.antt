@@ -2,8 +2,6 @@
 use Rattle.std.proofs.Common.{◌≡◌, inl, inr, ℕ, ◌<◌, List, [], ◌∷◌, length, refl, subst, Option, Some, None, Result, Ok, Err}
 use Rattle.std.specs.Prelude.{IfOk, OnOk}
 use Rattle.std.specs.Option.{IfSome}
-use Rattle.std.specs.Io.KnownBytes.{Appends}
-use Rattle.std.specs.declared.alloc.AllocError.{AllocError}
 use Rattle.std.specs.Io.BufRead.{take_through, DropsThrough}
 use Rattle.bt_mapkind.specs.declared.attr.MapAttr.{MapAttr}
 use Rattle.bt_mapkind.specs.Seen.{Seen}
@@ -21,24 +19,16 @@ use Rattle.thread_live.specs.declared.traffic.Traffic.{Traffic}
 use Rattle.thread_live.specs.Footings.{Footing}
 use Rattle.console_talk.specs.declared.manner.Manner.TheVariants.{Dialogue}
 use Rattle.thread_lock.specs.declared.seat.Seat.{Seat}
-use Rattle.console_looks.specs.Answered.{looked_text}
 use Rattle.console_looks.specs.declared.look.Look.{Look}
-use Rattle.console_looks.specs.declared.shown.Showing.{Showing}
-use Rattle.thread_asides.specs.Looked.{ShownAt}
+use Rattle.thread_asides.specs.Looked.{TellsLookAt}
 use Rattle.console_talk.specs.Talk.{said, Asks, looks, Ends}
-use Rattle.bpfcon.specs.LiveTalk.{ShowsAt, TellsLookAt, IsAnsweredLive, GoesLive, HasComeLive}
+use Rattle.bpfcon.specs.LiveTalk.{IsAnsweredLive, GoesLive, HasComeLive}
 use Rattle.console_talk.proofs.Spoken.{gave_none, come_on}
 
 -- what holds in any case holds if a call came to its end
 pub whenever : {T E P : Type 0} (r : Result T E) → P → IfOk r (λ _. P)
 whenever (Ok done) holds = holds
 whenever (Err fault) holds = tt
-
--- what was looked at in one call of a seat was written
-pub shows_at : {K E : Type 0} {g : Ghosts PlainBook PlainEvent Answer} (desk : Desk K) (serial : ℕ) (old new : Seat PlainBook PlainEvent Answer g) (text_old text_new : Option (List ℕ)) (r : Result (Unit {0}) E) (looked : Result Showing AllocError)
-    → IfOk looked (λ it. ShownAt desk serial it old new) → OnOk r (Appends text_old text_new (looked_text looked)) → OnOk r (ShowsAt desk serial old new text_old text_new)
-shows_at desk serial old new text_old text_new (Ok done) looked is written = record { looked = looked; is = is; written = written }
-shows_at desk serial old new text_old text_new (Err fault) looked is written = tt
 
 -- a line that asks for no help goes as it is answered, or as what is told of a look
 module _ {K S E : Type 0} {g : Ghosts PlainBook PlainEvent Answer} (gives : S → MapAttr → Result K NoBox → S → Type 0) (kind : K → Seen) (named : List ℕ → List FileText → Type 0) (desk : Desk K) (traffic : Traffic) (most : ℕ)

@@ -22,13 +22,14 @@ use Rattle.console_looks.specs.LookGrammar.{look_in}
 use Rattle.console_looks.specs.declared.look.Look.{Look}
 use Rattle.console_script.specs.Anew.{RunsAnew}
 use Rattle.console_script.specs.Made.{AllGetNew}
-use Rattle.console_input.specs.Book.{Asked, Line, Input, Script, Shell, Host, asked_for, IsRequest}
+use Rattle.console_input.specs.Book.{Asked, Line, Input, Script, Shell, Host, Live, asked_for, IsRequest}
 use Rattle.console_input.specs.Named.{AreFilesOf}
 use Rattle.console_input.specs.declared.book.BookOrder.{BookOrder}
 use Rattle.console_input.specs.declared.book.Request.{Request}
 use Rattle.console_input.specs.declared.book.Request.TheVariants as request
 use Rattle.console_input.specs.declared.fault.ArgsFault.{ArgsFault}
 use Rattle.console_input.specs.declared.fault.ReadFault.{ReadFault}
+use Rattle.console_input.specs.declared.live.Live.{Live as LiveOrder}
 use Rattle.console_input.specs.declared.source.TheConstants.{MOST_FRAMES}
 use Rattle.kept_host.specs.Asks.{only_ask}
 use Rattle.kept_host.specs.HostTerms.{host_terms}
@@ -46,9 +47,17 @@ use Rattle.kept_host.specs.Ranges.{TakesOpened}
 use Rattle.kept_host.specs.Runs.{RunsOpened}
 use Rattle.kept_host.specs.Talks.{TalksOpened}
 use Rattle.kept_lines.specs.declared.databases.Database.{Database}
+use Rattle.thread_frames.specs.declared.frame.FrameIn.{FrameIn}
+use Rattle.thread_host_run.specs.FramesOf.{AreFramesAt}
 use Rattle.thread_kept_frames.specs.Hosts.{ServesOpened}
+use Rattle.thread_kept_frames.specs.Lives.{LivesOpened}
 use Rattle.thread_kept_frames.specs.declared.kept.ServedHost.{ServedHost}
-use Rattle.bpfcon.specs.Carried.{IsScriptOf, Carried}
+use Rattle.thread_kept_frames.specs.declared.live.kept.LivedHost.{LivedHost}
+use Rattle.thread_live.specs.Reports.{report_text}
+use Rattle.thread_live.specs.declared.report.Report.{Report}
+use Rattle.thread_live.specs.declared.report.State.TheVariants.{Stopped}
+use Rattle.bpfcon.specs.Carried.{IsScriptOf, AreOfLive, Carried}
+use Rattle.bpfcon.specs.Live.{device_in}
 use Rattle.console_script.specs.Host.{device_names, limits}
 
 -- a line, a text from standard input, or what stands in a file; and the files that it names
@@ -57,6 +66,7 @@ IsScriptAsked may_read (Line line) text files = (text ≡ line) × AreFilesOf ma
 IsScriptAsked may_read Input text files = AreFilesOf may_read text files
 IsScriptAsked may_read (Script path) text files = IsScriptOf may_read path text files
 IsScriptAsked may_read (Host path frames) text files = IsScriptOf may_read path text files
+IsScriptAsked may_read (Live live) text files = IsScriptOf may_read (string_bytes live.setup) text files
 IsScriptAsked may_read Shell text files = ⊥
 
 -- whether a script only asks, and the file is not there
@@ -116,6 +126,10 @@ pub record TookAnew (range : SerialRange) (old new : Option (List ℕ)) (summary
 abbrev pub TakesOn : (Bool → Type 0) → (Result Database Error → Type 0) → (ℕ → Type 0) → SerialRange → Option (List ℕ) → Option (List ℕ) → Summary → Type 0
 TakesOn may_be_there may_open may_be_time range old new summary = (may_be_there true × TookOn may_open may_be_time range old new summary) ⊎ (may_be_there false × TookAnew range old new summary)
 
+-- what is told of a live host at its end
+abbrev pub report_of : LivedHost → Report
+report_of it = record { workers = 2; state = Stopped; tally = it.course.tally; moments = it.moments; most_moments = 65_536; rate = None }
+
 -- on the book of a file
 module _ (may_be_there : List ℕ → Bool → Type 0) (may_open : List ℕ → Result Database Error → Type 0) (may_be_time : ℕ → Type 0) (may_read : List ℕ → ℕ → Result (List ℕ) ReadFault → Type 0) (old new : Option (List ℕ)) (summary : Summary) (file : List ℕ) where
   -- the lines of a script were run
@@ -148,12 +162,29 @@ module _ (may_be_there : List ℕ → Bool → Type 0) (may_open : List ℕ → 
     pub served : ServesOpened (may_open file) may_be_time host_terms files text bytes old new (Ok it)
     pub counts : summary ≡ it.summary
 
+  -- the script of a live host was run, and then the lines of an input were answered while the frames of another file were served; how
+  -- these ended was told at last
+  pub record LivedOn (live : LiveOrder) : Type 0 where
+    pub text : List ℕ
+    pub files : List FileText
+    pub bytes : List ℕ
+    pub are : AreOfLive may_read live text files bytes
+    pub frames : List FrameIn
+    pub in_file : AreFramesAt (device_in live.options.device) bytes frames
+    pub input : Option (List ℕ)
+    pub between : Option (List ℕ)
+    pub it : LivedHost
+    pub lived : LivesOpened (may_open file) host_terms files text frames live.options.repeat may_read input old between (Ok it)
+    pub told : Appends between new (report_text (report_of it))
+    pub counts : summary ≡ it.summary
+
   abbrev pub DidOn : Asked → Type 0
   DidOn Shell = TalkedOn
   DidOn (Line line) = DidLine line (log_line_in (words line)) (range_in (words line)) (look_in (words line))
   DidOn Input = RanOn Input
   DidOn (Script path) = RanOn (Script path)
   DidOn (Host path frames) = ServedOn path frames
+  DidOn (Live live) = LivedOn live
 
 -- what is asked of the book of a file was done
 abbrev pub RanBook : (List ℕ → Bool → Type 0) → (List ℕ → ℕ → Result Database Error → Type 0) → (ℕ → Type 0) → (List ℕ → ℕ → Result (List ℕ) ReadFault → Type 0) → Option (List ℕ) → Option (List ℕ) → Summary → BookOrder → Type 0

@@ -6,7 +6,7 @@ use Rattle.console_input.specs.Book.{IsRequest}
 use Rattle.console_input.specs.declared.fault.ArgsFault.{ArgsFault}
 use Rattle.bpfcon.specs.Faults.{IsOfArgs}
 use Rattle.bpfcon.specs.declared.fault.Fault.{Fault}
-use Rattle.bpfcon.specs.declared.fault.Fault.TheVariants.{Unread, BadFrames, NoMemory, NoThread, Spent, OfFile, OfFrames, OfLog, CannotWrite}
+use Rattle.bpfcon.specs.declared.fault.Fault.TheVariants.{Unread, BadFrames, NoMemory, NoThread, Spent, OfFile, OfFrames, OfLive, OfLog, CannotWrite}
 
 -- what ends a part: a lack of memory and an input that is not read end any; the others may, if its output has refused to write, or
 -- as it serves frames, is a live host, or has its book in a file
@@ -37,10 +37,12 @@ EndsLive refused = EndsPart refused ⊤ ⊤ ⊥
 abbrev pub EndsBook : Type 0 → Fault → Type 0
 EndsBook refused = EndsPart refused ⊥ ⊥ ⊤
 
--- frames on the book in a file, besides: bytes that are no frames, frames that are not served, not kept or not told
+-- frames on the book in a file, besides: bytes that are no frames, frames that are not served, not kept or not told, and a live host
+-- that stops
 abbrev pub EndsOfFrames : Fault → Type 0
 EndsOfFrames (BadFrames why) = ⊤
 EndsOfFrames (OfFrames file fault) = ⊤
+EndsOfFrames (OfLive file fault) = ⊤
 EndsOfFrames _ = ⊥
 
 abbrev pub EndsServed : Type 0 → Fault → Type 0

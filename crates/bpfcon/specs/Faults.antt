@@ -16,6 +16,9 @@ use Rattle.kept_lines.specs.declared.fault.InFileFault.TheVariants.{Unopened, Ke
 use Rattle.thread_kept_frames.specs.declared.host_fault.HostRunFault.TheVariants.{Script, Frames}
 use Rattle.thread_kept_frames.specs.declared.host_fault.HostInFileFault.{HostInFileFault}
 use Rattle.thread_kept_frames.specs.declared.host_fault.HostInFileFault.TheVariants as in_file
+use Rattle.thread_kept_frames.specs.declared.fault.ServeFault.TheVariants as serve
+use Rattle.thread_kept_frames.specs.declared.live.listener.ListenFault.{ListenFault}
+use Rattle.thread_kept_frames.specs.declared.live.listener.ListenFault.TheVariants as listen
 use Rattle.thread_live.specs.declared.fault.LineFault.{LineFault}
 use Rattle.thread_live.specs.declared.fault.LineFault.TheVariants as line
 use Rattle.bpfcon.specs.declared.fault.Fault.TheVariants.{Usage, Command, NoWord, NotOfBook, BadBook, Unread, BadFrames, NoMemory, NoThread, Spent, OfFile, OfFrames, CannotWrite}
@@ -39,6 +42,11 @@ IsOfKept file bytes in_file.NoMemory fault = fault ≡ NoMemory
 IsOfKept file bytes (in_file.Unopened error) fault = fault ≡ OfFile file (Unopened error)
 IsOfKept file bytes (in_file.Kept (Script why)) fault = fault ≡ OfFile file (Kept why)
 IsOfKept file bytes (in_file.Kept (Frames why)) fault = fault ≡ OfFrames file why
+
+-- nobody hears the lines of standard input for a live host on the book in a file
+abbrev pub unheard : String Global → ListenFault → Fault
+unheard file listen.NoMemory = NoMemory
+unheard file listen.NoThread = OfFrames file serve.NoThread
 
 abbrev pub fault_of_line : LineFault → Fault
 fault_of_line line.Write = CannotWrite

@@ -1,7 +1,6 @@
 -- A talk with a live host: lines that are answered one by one, each when it is given.
-use Rattle.std.specs.Prelude.{◌≡◌, ◌⊎◌, ℕ, List, Option, Some, None, Result, IfOk}
-use Rattle.std.specs.Io.KnownBytes.{Appends, Keeps}
-use Rattle.std.specs.declared.alloc.AllocError.{AllocError}
+use Rattle.std.specs.Prelude.{◌≡◌, ◌⊎◌, ℕ, List, Option, Some, None, Result}
+use Rattle.std.specs.Io.KnownBytes.{Keeps}
 use Rattle.bt_mapkind.specs.declared.attr.MapAttr.{MapAttr}
 use Rattle.bt_mapkind.specs.Seen.{Seen}
 use Rattle.journal_model.specs.Book.{PlainBook}
@@ -20,25 +19,10 @@ use Rattle.thread_live.specs.Footings.{Footing, footing}
 use Rattle.thread_live.specs.Crew.{Parted}
 use Rattle.thread_live.specs.Standings.{EndsTraffic}
 use Rattle.thread_live.specs.Lines.{LineGoes}
-use Rattle.console_looks.specs.Answered.{looked_text}
 use Rattle.console_looks.specs.declared.look.Look.{Look}
-use Rattle.console_looks.specs.declared.look.Look.TheVariants.{Show, DryUndo}
-use Rattle.console_looks.specs.declared.shown.Showing.{Showing}
-use Rattle.thread_asides.specs.Looked.{ShownAt}
+use Rattle.thread_asides.specs.Looked.{TellsLookAt}
 use Rattle.console_talk.specs.declared.manner.Manner.TheVariants.{Dialogue}
 use Rattle.console_talk.specs.Talk.{Said, Asks, looks, HasComeTo, MayStop}
-
-module _ {K : Type 0} {g : Ghosts PlainBook PlainEvent Answer} (desk : Desk K) where
-  -- what there is to show of a serial, as the journal was in one call of a seat, was written; or that there was no memory to look
-  pub record ShowsAt (serial : ℕ) (old new : Seat PlainBook PlainEvent Answer g) (text_old text_new : Option (List ℕ)) : Type 0 where
-    pub looked : Result Showing AllocError
-    pub is : IfOk looked (λ it. ShownAt desk serial it old new)
-    pub written : Appends text_old text_new (looked_text looked)
-
-  -- what a look tells on the output: an undo that is only looked at tells nothing there
-  abbrev pub TellsLookAt : Look → Seat PlainBook PlainEvent Answer g → Seat PlainBook PlainEvent Answer g → Option (List ℕ) → Option (List ℕ) → Type 0
-  TellsLookAt (Show serial) old new text_old text_new = ShowsAt serial old new text_old text_new
-  TellsLookAt (DryUndo mark) old new text_old text_new = text_new ≡ text_old
 
 module _ {K S : Type 0} {g : Ghosts PlainBook PlainEvent Answer} (gives : S → MapAttr → Result K NoBox → S → Type 0) (kind : K → Seen) (named : List ℕ → List FileText → Type 0) (desk : Desk K) (traffic : Traffic) (most : ℕ) where
   -- a line was answered with the files that it names, and counted; and then what was written was handed on

@@ -12,9 +12,9 @@ ghost use Rattle.bpfcon.specs.Book.{IsOfNone, RunsOn, LooksAnew, StopsAnew, Look
 ghost use Rattle.bpfcon.specs.Ends.{EndsBook, EndsLines, EndsReading, EndsServed};
 ghost use Rattle.bpfcon.specs.declared.fault.Fault.TheVariants.{CannotWrite};
 
-use crate::beside::{Beside, Origin};
 use crate::fault::Fault;
 use crate::kept_frames::serve_on_book;
+use crate::kept_live::live_on_book;
 use crate::log::log_on_book;
 use crate::new_host::run_on_host;
 use crate::range::take_on_book;
@@ -36,6 +36,8 @@ use std::io::{BufReader, Read};
 use std::mem::ManuallyDrop;
 use std::sync::Wait;
 use std::thread::Threads;
+use std::time::Clock;
+use thread_asides::{Beside, LineOrigin};
 
 // A text as a script, with the files that it names.
 fn with_named<R: FileReader + AllocGlobal>(rt: &R, text: Vec<u8>) -> Result<Script, Fault>
@@ -82,7 +84,7 @@ fn run_at<R: FileReader + Eprint + Databases + AllocGlobal, W: Output>(
     wait: u32,
     terms: Terms,
     name: &[u8],
-    origin: Origin,
+    origin: LineOrigin,
     script: &Script,
     out: &mut W,
 ) -> Result<Summary, InFileFault>
@@ -99,7 +101,7 @@ fn run_script<R: FileReader + Eprint + Databases + AllocGlobal, W: Output>(
     file: String,
     wait: u32,
     name: &[u8],
-    origin: Origin,
+    origin: LineOrigin,
     script: &Script,
     out: &mut W,
 ) -> Result<Summary, Fault>
@@ -128,7 +130,7 @@ fn look_at<R: FileReader + Eprint + Databases + AllocGlobal, W: Output>(
 ) -> Result<Summary, InFileFault>
     ensures { LooksInFile (R.may_open rt.now path.now wait) terms look.now (W.contents out.old) (W.contents out.new) result }
 {
-    let mut beside = Beside::new(rt, b"command", path, Origin::Line);
+    let mut beside = Beside::new(rt, b"command", path, LineOrigin::Line);
     look_in_file(rt, path, wait, terms, look, &mut beside, out)
 }
 
@@ -147,7 +149,7 @@ fn look_anew<R: FileReader + Eprint + AllocGlobal, W: Output>(
         Ok(book) => book,
         Err(_) => return Err(Fault::NoMemory),
     };
-    let mut beside = Beside::new(rt, b"command", path, Origin::Line);
+    let mut beside = Beside::new(rt, b"command", path, LineOrigin::Line);
     let looked = look_now(&mut book, look, &mut beside, out);
     let _book = ManuallyDrop::new(book);
     match looked {
@@ -203,7 +205,7 @@ fn line_on_book<R: FileReader + Eprint + Databases + AllocGlobal, W: Output>(
         None => {}
     }
     let script = with_named(rt, line)?;
-    run_script(rt, file, wait, b"command", Origin::Line, &script, out)
+    run_script(rt, file, wait, b"command", LineOrigin::Line, &script, out)
 }
 
 // Answers the lines of standard input one by one on the book that a file keeps.
@@ -222,7 +224,7 @@ fn talk_on_book<R: FileReader + Terminal + Input + Eprint + Databases + AllocGlo
         Err(_) => return Err(Fault::NoMemory),
     };
     let terms = host_terms(alloc)?;
-    let mut beside = Beside::new(rt, b"stdin", "bpfcon", Origin::Dialogue);
+    let mut beside = Beside::new(rt, b"stdin", "bpfcon", LineOrigin::Dialogue);
     match talk_in_file(rt, file.as_str(), wait, terms, &mut beside, &mut input, out) {
         Ok(summary) => Ok(summary),
         Err(TalkFault::InFile(fault)) => Err(Fault::OfFile { file, fault }),
@@ -230,17 +232,31 @@ fn talk_on_book<R: FileReader + Terminal + Input + Eprint + Databases + AllocGlo
     }
 }
 
-/// Runs the lines that are asked for on the book that a file keeps, and frames after them if some are, or tells its log, takes a
-/// range of changes out or looks into its journal if that is what one line asks, and tells on standard error what is wrong with each
-/// line that is refused.
+/// Runs the lines that are asked for on the book that a file keeps, and frames after them or between them if some are, or tells its log,
+/// takes a range of changes out or looks into its journal if that is what one line asks, and tells on standard error what is wrong with
+/// each line that is refused.
 ///
 /// # Errors
 /// Those of a script that is not read, before which the file is not opened; those of lines that are not read one by one; `OfFile`
-/// if the book was not opened, or what a line did was not kept, or not answered; and those of [`serve_on_book`].
+/// if the book was not opened, or what a line did was not kept, or not answered; and those of [`serve_on_book`] and [`live_on_book`].
 pub fn run_on_book<
-    R: FileReader + Terminal + Input + Eprint + Databases + AllocGlobal + Threads + Wait + Sync,
+    R: FileReader
+        + Terminal
+        + Input
+        + Eprint
+        + Databases
+        + AllocGlobal
+        + Threads
+        + Wait
+        + Clock
+        + Copy
+        + Send
+        + Sync
+        + 'static,
     W: Output,
 >(rt: &R, order: BookOrder, out: &mut W) -> Result<Summary, Fault>
+where
+    R::Reader: Send + 'static,
     ensures ran { IfOk result (λ summary. RanBook (R.may_be_there rt.now) (R.may_open rt.now) (R.may_be_time rt.now) (R.may_read rt.now) (W.contents out.old) (W.contents out.new) summary order) }
     ensures only { IfErr result (EndsServed (W.has_refused out.new)) }
 {
@@ -249,17 +265,18 @@ pub fn run_on_book<
         BookLines::Line(line) => line_on_book(rt, file, wait, line, out),
         BookLines::Input => {
             let script = read_input(rt)?;
-            run_script(rt, file, wait, b"stdin", Origin::Script, &script, out)
+            run_script(rt, file, wait, b"stdin", LineOrigin::Script, &script, out)
         }
         BookLines::Script(path) => {
             let script = read_script(rt, path.as_str())?;
             let name = path.as_bytes();
-            run_script(rt, file, wait, name, Origin::Script, &script, out)
+            run_script(rt, file, wait, name, LineOrigin::Script, &script, out)
         }
         BookLines::Shell => talk_on_book(rt, file, wait, out),
         BookLines::Host(script, frames) => {
             let (path, frames) = (script.as_str(), frames.as_str());
             serve_on_book(rt, file, wait, path, frames, out)
         }
+        BookLines::Live(live) => live_on_book(rt, file, wait, &live, out),
     }
 }

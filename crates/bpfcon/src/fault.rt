@@ -11,7 +11,7 @@ use std::alloc::{AllocError, Global};
 use std::fmt;
 use thiserror::Error;
 use thread_host_run::{NoFrames, RunHostFault, why_none};
-use thread_kept_frames::ServeFault;
+use thread_kept_frames::{LiveInFileFault, ServeFault};
 use thread_live::LineFault;
 
 // What is added if the name of an input is `-`, which many programs take for standard input.
@@ -45,14 +45,17 @@ pub enum Fault {
     #[error("bpfcon: usage: after -b FILE each argument is a word of the line, and so not empty and without a blank, # or line end")]
     NoWord,
     /// There is no such verb for a book.
-    #[error("bpfcon: usage: after -b FILE comes a command, run SCRIPT, shell or host SCRIPT FRAMES; there is no live for a book in a file yet")]
+    #[error("bpfcon: usage: after -b FILE comes a command, run SCRIPT, shell, host SCRIPT FRAMES or live SETUP FRAMES, which has no --workers and no --journal there")]
     NotOfBook,
     /// The environment names a book by what is no path.
     #[error("bpfcon: usage: BPFCON_BOOK is no path in UTF-8")]
     BadBook,
     /// The arguments, or an input that is named, can't be read.
     #[error("bpfcon: cannot read {}: {cause}{}", Shown(.name.as_bytes()), Dash(.name.as_str()))]
-    Unread { name: String, cause: Cause },
+    Unread {
+        name: String,
+        cause: Cause,
+    },
     /// A file has no frames.
     #[error("bpfcon: cannot read frames: {0}")]
     BadFrames(NoFrames),
@@ -67,13 +70,28 @@ pub enum Fault {
     Spent,
     /// A file keeps no book, or what was done to its book is not kept.
     #[error("bpfcon: {}{fault}", Shown(.file.as_bytes()))]
-    OfFile { file: String, fault: InFileFault },
+    OfFile {
+        file: String,
+        fault: InFileFault,
+    },
     /// Frames on the book of a file were not served, or what they changed is not kept, or not told.
     #[error("bpfcon: {}{fault}", Shown(.file.as_bytes()))]
-    OfFrames { file: String, fault: ServeFault },
+    OfFrames {
+        file: String,
+        fault: ServeFault,
+    },
+    /// A live host on the book of a file did not come to its end.
+    #[error("bpfcon: {}{fault}", Shown(.file.as_bytes()))]
+    OfLive {
+        file: String,
+        fault: LiveInFileFault,
+    },
     /// The log of a file is not told.
     #[error("bpfcon: {}{fault}", Shown(.file.as_bytes()))]
-    OfLog { file: String, fault: LogInFileFault },
+    OfLog {
+        file: String,
+        fault: LogInFileFault,
+    },
     /// A write to standard output failed.
     #[error("bpfcon: cannot write")]
     CannotWrite,

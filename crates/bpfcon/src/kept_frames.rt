@@ -6,7 +6,6 @@ ghost use Rattle.bpfcon.specs.Book.{ServedOn};
 ghost use Rattle.bpfcon.specs.Ends.{EndsServed};
 ghost use Rattle.bpfcon.specs.Faults.{IsOfKept};
 
-use crate::beside::{Beside, Origin};
 use crate::fault::Fault;
 use crate::{read, read_script};
 use bt_syntax::Script;
@@ -17,7 +16,7 @@ use kept_host::{Databases, InFileFault, Terms, host_terms};
 use std::alloc::Global;
 use std::sync::Wait;
 use std::thread::Threads;
-use thread_asides::tell_frames;
+use thread_asides::{Beside, LineOrigin, tell_frames};
 use thread_host_run::{refused_in, why_none};
 use thread_kept_frames::{HostInFileFault, HostRunFault, ServedHost, serve_in_file};
 
@@ -34,7 +33,7 @@ fn serve_at<R: FileReader + Eprint + Databases + AllocGlobal + Threads + Wait + 
 ) -> Result<ServedHost, HostInFileFault>
     ensures { ServesInFile (R.may_open rt.now path.now wait) (R.may_be_time rt.now) terms script.now.files.items script.now.text.items frames.now (W.contents out.old) (W.contents out.new) result }
 {
-    let mut beside = Beside::new(rt, name, path, Origin::Script);
+    let mut beside = Beside::new(rt, name, path, LineOrigin::Script);
     serve_in_file(rt, path, wait, terms, script, frames, &mut beside, out)
 }
 

@@ -38,8 +38,8 @@ struct Begun {
     operator: Operator<HostSupply>,
 }
 
-// The device at which the frames of a capture come in.
-fn device_of(alloc: Global, options: &LiveOptions) -> Result<Word, Fault>
+/// The device at which the frames of a capture come in.
+pub(crate) fn device_of(alloc: Global, options: &LiveOptions) -> Result<Word, Fault>
     ensures ran { IfOk result (λ device. device ≡ device_in options.now.device) }
     ensures only { IfErr result EndsReading }
 {

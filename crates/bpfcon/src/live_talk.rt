@@ -1,15 +1,13 @@
 //! The console of a live host: lines of an input, each answered while workers serve frames.
 
-ghost use Rattle.std.specs.Prelude.{◌≡◌, List, Err, IfOk, IfErr, OnOk};
-ghost use Rattle.std.specs.Io.KnownBytes.{Appends, Keeps};
+ghost use Rattle.std.specs.Prelude.{◌≡◌, List, IfOk, IfErr, OnOk};
+ghost use Rattle.std.specs.Io.KnownBytes.{Keeps};
 ghost use Rattle.bt_desk.specs.Seats.{IsSeatAt};
-ghost use Rattle.thread_lock.specs.Seats.{calls_left};
 ghost use Rattle.bt_syntax.specs.declared.files.FileText.{FileText};
 ghost use Rattle.console_input.specs.Named.{AreFilesOf};
 ghost use Rattle.thread_live.specs.Footings.{footing};
-ghost use Rattle.console_looks.specs.Answered.{looked_text};
-ghost use Rattle.bpfcon.specs.declared.fault.Fault.TheVariants.{Spent};
-ghost use Rattle.bpfcon.specs.LiveTalk.{ShowsAt, TellsLookAt, IsAnsweredLive, GoesLive, TalkedLive, TalkedToEnd};
+ghost use Rattle.thread_asides.specs.Looked.{TellsLookAt};
+ghost use Rattle.bpfcon.specs.LiveTalk.{IsAnsweredLive, GoesLive, TalkedLive, TalkedToEnd};
 ghost use Rattle.console_talk.specs.Talk.{said};
 ghost use Rattle.bpfcon.specs.Ends.{EndsLines, EndsLive};
 
@@ -21,17 +19,14 @@ use bt_mapkind::MapKind;
 use bt_syntax::{FileText, first_line};
 use console_hint::Place;
 use console_input::{FileReader, MOST_SCRIPT, read_named};
-use console_looks::{Look, Showing, put_looked};
+use console_looks::Look;
 use console_script::{HostKind, HostSupply, Summary, Tally};
 use console_talk::{Manner, read_line};
 use console_text::Output;
-use host_words::NoMemory;
 use std::io::BufRead;
 use std::sync::Wait;
 use std::time::Clock;
-use thread_asides::{
-    Turning, explain_at, show_at, show_help, tell_dry_at, tell_held_at, tell_step,
-};
+use thread_asides::{LookFault, Turning, explain_at, look_at, show_help, tell_held_at, tell_step};
 use thread_live::{Console, Operator, Traffic, answer_line, end_traffic};
 
 /// The console of a live host: where its lines come from, where its answers go, and what it keeps from line to line.
@@ -141,41 +136,6 @@ fn told_after<R: Eprint + AllocGlobal, S>(
     }
 }
 
-// Writes what was looked at for a serial, and has it stand on the output when it returns.
-fn put_now<W: Output>(looked: &Result<Showing, NoMemory>, out: &mut W) -> Result<(), Fault>
-    ensures text { OnOk result (Appends (W.contents out.old) (W.contents out.new) (looked_text looked.now)) }
-    ensures only { IfErr result (EndsLines (W.has_refused out.new)) }
-{
-    match put_looked(out, looked) {
-        Ok(()) => {}
-        Err(_) => return Err(Fault::CannotWrite),
-    }
-    match out.flush_all() {
-        Ok(()) => Ok(()),
-        Err(_) => Err(Fault::CannotWrite),
-    }
-}
-
-// Shows the change of a serial, as the journal is in one call of the desk.
-fn show_now<K: MapKind, R: Wait, W: Output>(
-    rt: &R,
-    desk: &Desk<K>,
-    looker: &mut Seat<K>,
-    serial: u64,
-    out: &mut W,
-) -> Result<(), Fault>
-    requires { IsSeatAt desk.now looker.old }
-    ensures looker { IsSeatAt desk.now looker.new }
-    ensures shown { OnOk result (ShowsAt desk.now serial looker.old looker.new (W.contents out.old) (W.contents out.new)) }
-    ensures spent { result ≡ Err Spent → calls_left looker.old ≡ 0 }
-    ensures only { IfErr result (EndsLive (W.has_refused out.new)) }
-{
-    match show_at(rt, desk, looker, serial) {
-        Ok(looked) => put_now(&looked, out),
-        Err(_) => Err(Fault::Spent),
-    }
-}
-
 // Does what a line asks that only looks at the journal, by the seat that looks.
 fn look_now<K: MapKind, R: Eprint + AllocGlobal + Wait, W: Output>(
     rt: &R,
@@ -189,12 +149,10 @@ fn look_now<K: MapKind, R: Eprint + AllocGlobal + Wait, W: Output>(
     ensures told { OnOk result (TellsLookAt desk.now look.now looker.old looker.new (W.contents out.old) (W.contents out.new)) }
     ensures only { IfErr result (EndsLive (W.has_refused out.new)) }
 {
-    match look {
-        Look::Show(serial) => show_now(rt, desk, looker, *serial, out),
-        Look::DryUndo(mark) => {
-            tell_dry_at(rt, "bpfcon", desk, looker, mark);
-            Ok(())
-        }
+    match look_at(rt, desk, looker, look, out) {
+        Ok(()) => Ok(()),
+        Err(LookFault::Write) => Err(Fault::CannotWrite),
+        Err(LookFault::Spent) => Err(Fault::Spent),
     }
 }
 

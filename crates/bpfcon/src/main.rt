@@ -20,14 +20,13 @@ ghost use Rattle.bpfcon.specs.declared.fault.Fault.TheVariants.{CannotWrite};
 ghost use Rattle.bpfcon.specs.Ends.{EndsFrames, EndsLines, EndsLive, EndsProgram, EndsReading, EndsRun};
 
 mod answered;
-mod beside;
 mod book;
 mod explain;
 mod fault;
-mod help;
 mod host_run;
 mod input;
 mod kept_frames;
+mod kept_live;
 mod lines;
 mod live;
 mod live_talk;
@@ -43,15 +42,14 @@ use bt_desk::Shared;
 use bt_mapkind::MapKind;
 use bt_syntax::Script;
 use console_input::{
-    Arguments, FileReader, Live, MOST_FRAMES, MOST_SCRIPT, Order, Request, Surroundings, Terminal,
-    read_named, request_of_args,
+    Arguments, FileReader, HELP, Live, MOST_FRAMES, MOST_SCRIPT, Order, Request, Surroundings,
+    Terminal, VERSION, read_named, request_of_args,
 };
 use console_script::{HostKind, HostSupply, Summary};
 use console_talk::Manner;
 use console_text::{Output, put};
 use explain::tell_count;
 use fault::Fault;
-use help::{HELP, VERSION};
 use host_run::{serve_on_host, serve_then_run};
 use input::talk;
 use kept_host::Databases;
@@ -232,9 +230,14 @@ fn answer_request<
         + Wait
         + Clock
         + Databases
-        + Sync,
+        + Copy
+        + Send
+        + Sync
+        + 'static,
     W: Output + Drop,
 >(rt: &R, request: Request, out: W) -> (W, Result<Summary, Fault>)
+where
+    R::Reader: Send + 'static,
     ensures ran { IfOk result.1 (λ summary. Did ⟦<Shared<HostKind> as Sequential>⟧ ⟦<HostSupply as Supply<HostKind>>⟧.gives ⟦<HostKind as MapKind>⟧.seen (R.may_be_there rt.now) (R.may_open rt.now) (R.may_be_time rt.now) (R.may_read rt.now)
         (W.contents out) (W.contents result.0) summary request) }
     ensures only { IfErr result.1 (EndsRun (W.has_refused result.0)) }
@@ -262,8 +265,13 @@ fn run<
         + Wait
         + Clock
         + Databases
-        + Sync,
+        + Copy
+        + Send
+        + Sync
+        + 'static,
 >(rt: &R) -> Result<Summary, Fault>
+where
+    R::Reader: Send + 'static,
     ensures ran { IfOk result (λ summary. DidAsked ⟦<Shared<HostKind> as Sequential>⟧ ⟦<HostSupply as Supply<HostKind>>⟧.gives ⟦<HostKind as MapKind>⟧.seen (R.may_be_there rt.now) (R.may_open rt.now) (R.may_be_time rt.now) (R.may_be rt.now) (R.may_name rt.now) (R.may_read rt.now) summary) }
     ensures only { IfErr result (EndsProgram (R.may_be rt.now) (R.may_name rt.now)) }
 {

@@ -5,7 +5,6 @@ ghost use Rattle.kept_host.specs.Ranges.{TakesInFile};
 ghost use Rattle.bpfcon.specs.Book.{TakesOn};
 ghost use Rattle.bpfcon.specs.Ends.{EndsBook};
 
-use crate::beside::{Beside, Origin};
 use crate::fault::Fault;
 use crate::refused::refuse;
 use console_answer::Fault as LineFault;
@@ -14,6 +13,7 @@ use console_input::FileReader;
 use console_script::Summary;
 use console_text::Output;
 use kept_host::{Databases, InFileFault, SerialRange, Taken, Terms, host_terms, take_in_file};
+use thread_asides::{Beside, LineOrigin};
 
 // Takes the range that a line spells out of the book in the file of this path.
 fn take_at<R: FileReader + Eprint + Databases + AllocGlobal, W: Output>(
@@ -27,7 +27,7 @@ fn take_at<R: FileReader + Eprint + Databases + AllocGlobal, W: Output>(
 ) -> Result<Taken, InFileFault>
     ensures { TakesInFile (R.may_open rt.now path.now wait) (R.may_be_time rt.now) terms range (W.contents out.old) (W.contents out.new) result }
 {
-    let mut beside = Beside::new(rt, b"command", path, Origin::Line);
+    let mut beside = Beside::new(rt, b"command", path, LineOrigin::Line);
     take_in_file(rt, path, wait, terms, line, range, &mut beside, out)
 }
 

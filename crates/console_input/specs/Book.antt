@@ -5,6 +5,7 @@ use Rattle.std.specs.Str.{bytes_eq}
 use Rattle.std.specs.declared.alloc.Global.{Global}
 use Rattle.std.specs.declared.string.String.{String}
 use Rattle.console_operand.specs.Word.{ends_word, has_bytes}
+use Rattle.console_input.specs.Live.{asked_live}
 use Rattle.console_input.specs.Options.{Parts, option_of, no_options, options_in}
 use Rattle.console_input.specs.Orders.{begins_command, behind_name, order_by_words}
 use Rattle.console_input.specs.declared.book.BookLines.{BookLines}
@@ -15,18 +16,20 @@ use Rattle.console_input.specs.declared.book.Request.TheVariants.{Plain, Book}
 use Rattle.console_input.specs.declared.fault.ArgsFault.{ArgsFault}
 use Rattle.console_input.specs.declared.fault.ArgsFault.TheVariants.{Usage, NoWord, NotOfBook, Read}
 use Rattle.console_input.specs.declared.fault.ReadFault.TheVariants.{NoMemory}
+use Rattle.console_input.specs.declared.live.Live.{Live as LiveOrder}
 use Rattle.console_input.specs.declared.options.BookOptions.{BookOptions}
 use Rattle.console_input.specs.declared.order.Order.{Order}
 
 -- ---- the lines
--- one line, those of standard input, those of a file, those of standard input one by one, or those of a file and then the frames of
--- another
+-- one line, those of standard input, those of a file, those of standard input one by one, those of a file and then the frames of
+-- another, or a live host
 pub data Asked : Type 0 where
   Line : List ℕ → Asked
   Input : Asked
   Script : List ℕ → Asked
   Shell : Asked
   Host : List ℕ → List ℕ → Asked
+  Live : LiveOrder → Asked
 
 abbrev pub asked_for : BookLines → Asked
 asked_for (lines.Line line) = Line line.items
@@ -34,6 +37,7 @@ asked_for lines.Input = Input
 asked_for (lines.Script path) = Script (string_bytes path)
 asked_for lines.Shell = Shell
 asked_for (lines.Host script frames) = Host (string_bytes script) (string_bytes frames)
+asked_for (lines.Live live) = Live live
 
 -- a byte that may stand within a word of a line
 abbrev pub is_of_word : ℕ → Bool
@@ -52,13 +56,9 @@ line_by line (word ∷ words) = if is_line_word (string_bytes word) then line_by
 abbrev pub begins_line : List ℕ → Bool
 begins_line word = bytes_eq word (codes "run") || begins_command word
 
--- a verb of the program that begins no line; `host` with a script and frames alone is there for a book
-abbrev pub is_not_of_book : List ℕ → Bool
-is_not_of_book verb = bytes_eq verb (codes "host") || bytes_eq verb (codes "live")
-
--- why a word begins no line
+-- why a word begins no line; `host` with a script and frames alone is there for a book
 abbrev pub no_line : List ℕ → ArgsFault
-no_line verb = if is_not_of_book verb then NotOfBook else Usage
+no_line verb = if bytes_eq verb (codes "host") then NotOfBook else Usage
 
 -- words as a line
 abbrev pub line_of : List ℕ → List (String Global) → Result Asked ArgsFault
@@ -87,11 +87,20 @@ asked_of_more verb one two (three ∷ words) = line_of verb (one ∷ two ∷ thr
 
 -- `run` with exactly one word after it is a script, `shell` alone is a dialogue, `host` with exactly two is a script and frames, and
 -- all else is a line
+abbrev pub asked_of_words : List ℕ → List (String Global) → Result Asked ArgsFault
+asked_of_words verb [] = asked_alone verb
+asked_of_words verb (word ∷ []) = asked_of_one verb word
+asked_of_words verb (one ∷ two ∷ words) = asked_of_more verb one two words
+
+-- a live host whose workers and moments are not numbered: two serve, and the journal is the book's
+abbrev pub live_on_book : Option LiveOrder → Result Asked ArgsFault
+live_on_book (Some live) = if live.sizes_given then Err NotOfBook else Ok (Live live)
+live_on_book None = Err Usage
+
+-- options may come after `live` alone
 abbrev pub asked_of_book : List (String Global) → Result Asked ArgsFault
 asked_of_book [] = Err Usage
-asked_of_book (verb ∷ []) = asked_alone (string_bytes verb)
-asked_of_book (verb ∷ word ∷ []) = asked_of_one (string_bytes verb) word
-asked_of_book (verb ∷ one ∷ two ∷ words) = asked_of_more (string_bytes verb) one two words
+asked_of_book (verb ∷ words) = if bytes_eq (string_bytes verb) (codes "live") then live_on_book (asked_live words) else asked_of_words (string_bytes verb) words
 
 -- ---- what is told
 -- just these lines, or why there are none; or there is no memory for them
@@ -137,9 +146,9 @@ abbrev pub RequestOpted : Result (Option (String Global)) ArgsFault → Option P
 RequestOpted named None told = told ≡ Err Usage
 RequestOpted named (Some it) told = RequestWith named it.options (it.verb ∷ it.words) told
 
--- a word with which a line may begin, or a dialogue, or a script with frames
+-- a word with which a line may begin, or a dialogue, a script with frames, or a live host
 abbrev pub is_of_book : List ℕ → Bool
-is_of_book word = bytes_eq word (codes "shell") || bytes_eq word (codes "host") || begins_line word
+is_of_book word = bytes_eq word (codes "shell") || bytes_eq word (codes "host") || bytes_eq word (codes "live") || begins_line word
 
 -- without options such a word asks of the book that the environment names, if it names one; and the words ask else what they ask
 -- without a book

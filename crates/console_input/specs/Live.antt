@@ -1,5 +1,5 @@
 -- What the words after `live` ask.
-use Rattle.std.specs.Prelude.{◌≡◌, ℕ, ◌≤◌, Bool, true, if◌then◌else◌, List, [], ◌∷◌, Option, Some, None, is_some, unwrap_or, IfSome, codes, string_bytes}
+use Rattle.std.specs.Prelude.{◌≡◌, ℕ, ◌≤◌, Bool, true, ◌||◌, if◌then◌else◌, List, [], ◌∷◌, Option, Some, None, is_some, unwrap_or, IfSome, codes, string_bytes}
 use Rattle.std.specs.Option.{option_map, option_and_then, option_map_or}
 use Rattle.std.specs.declared.alloc.Global.{Global}
 use Rattle.std.specs.declared.string.String.{String}
@@ -49,6 +49,10 @@ is_given given Repeat = is_some given.repeat
 is_given given Journal = is_some given.journal
 is_given given Device = is_some given.device
 
+-- how many workers, or how many moments
+abbrev pub has_sizes : Given → Bool
+has_sizes given = is_some given.workers || is_some given.journal
+
 -- with an option of the value that a word spells
 abbrev pub set_to : Given → LiveOption → String Global → Option Given
 set_to given Workers word = option_map (λ count. record given { workers = Some count }) (number_between 1 64 (string_bytes word))
@@ -73,7 +77,7 @@ options_of given = record {
 
 -- two files, after which no word may stand
 abbrev pub with_files : Given → String Global → String Global → List (String Global) → Option Live
-with_files given setup frames [] = Some (record { options = options_of given; setup = setup; frames = frames })
+with_files given setup frames [] = Some (record { options = options_of given; sizes_given = has_sizes given; setup = setup; frames = frames })
 with_files given setup frames (word ∷ words) = None
 
 -- options, each with its value after it, and then two files

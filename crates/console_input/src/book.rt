@@ -1,21 +1,21 @@
 //! What the arguments ask: of a book that is kept in a file, or without one.
 
-ghost use Rattle.std.specs.Prelude.{◌≡◌, ◌⊎◌, ◌∷◌, ◌++◌, [], true, false, List, Option, Result, Ok, Err, IfOk, IfErr, string_bytes};
-ghost use Rattle.std.specs.List.{list_all};
+ghost use Rattle.std.specs.Prelude.{◌≡◌, ◌∷◌, List, Option, Result, Ok, string_bytes};
 ghost use Rattle.std.specs.Vec.Iter.{into_iter_items};
 ghost use Rattle.std.specs.declared.alloc.Global.{Global};
 ghost use Rattle.std.specs.declared.string.String.{String};
-ghost use Rattle.console_input.specs.Book.{Asked, is_of_word, is_line_word, begins_line, no_line, line_by, line_of, script_at, asked_alone, asked_of_one, asked_of_two, asked_of_more, asked_of_book, asked_for, GivesLines, IsOfBook, is_of_book, plain, RequestWith, RequestWithout, RequestBy, RequestIn, IsRequest};
+ghost use Rattle.console_input.specs.Book.{Asked, script_at, asked_alone, asked_of_one, asked_of_two, asked_of_more, asked_of_words, live_on_book, asked_of_book, asked_for, GivesLines, IsOfBook, is_of_book, plain, RequestWith, RequestWithout, RequestBy, RequestIn, IsRequest};
+ghost use Rattle.console_input.specs.Live.{asked_live};
 ghost use Rattle.console_input.specs.Orders.{behind_name, order_in};
 ghost use Rattle.console_input.specs.declared.fault.ArgsFault.{ArgsFault};
-ghost use Rattle.console_input.specs.declared.fault.ArgsFault.TheVariants.{NoWord, Read};
-ghost use Rattle.console_input.specs.declared.fault.ReadFault.TheVariants.{NoMemory};
 ghost use Rattle.console_input.specs.declared.order.Order.{Order};
 
 use crate::arguments::Arguments;
-use crate::fault::{ArgsFault, ReadFault};
+use crate::fault::ArgsFault;
+use crate::line::{begins_line, first_word, line_of_more, line_of_three, line_of_two};
+use crate::live::{Live, live_of};
 use crate::options::{BookOptions, Opted, is_option, take_options};
-use crate::order::{Order, begins_command, order_by_verb};
+use crate::order::{Order, order_by_verb};
 use crate::surroundings::Surroundings;
 use std::alloc::Global;
 use std::vec::IntoIter;
@@ -33,6 +33,8 @@ pub enum BookLines {
     Shell,
     /// The script of the first path, and then the frames of the second, which workers serve.
     Host(String, String),
+    /// A script, and then the lines of standard input, each of which is answered when it is given, while workers serve frames.
+    Live(Live),
 }
 
 /// Lines that are run on the book that a file keeps.
@@ -54,91 +56,6 @@ pub enum Request {
     Book(BookOrder),
 }
 
-const NO_MEMORY: ArgsFault = ArgsFault::Read(ReadFault::NoMemory);
-
-// Whether a byte may stand within a word of a line.
-fn is_of_word(byte: u8) -> bool
-    ensures { result ≡ is_of_word byte }
-{
-    !(byte == b' ' || byte == b'\t' || byte == b'#' || byte == b'\n')
-}
-
-fn are_of_word(word: &[u8]) -> bool
-    ensures { result ≡ list_all is_of_word word.now }
-{
-    word.iter().all(|byte| is_of_word(*byte))
-}
-
-// Whether an argument is a word of a line.
-fn is_line_word(word: &[u8]) -> bool
-    ensures { result ≡ is_line_word word.now }
-{
-    !word.is_empty() && are_of_word(word)
-}
-
-// Adds bytes after the others.
-fn append(line: &mut Vec<u8>, bytes: &[u8]) -> Result<(), ArgsFault>
-    ensures added { IfOk result (λ _. line.new.items ≡ line.old.items ++ bytes.now) }
-    ensures why { IfErr result (λ fault. fault ≡ Read NoMemory) }
-{
-    match line.extend_from_slice(bytes) {
-        Ok(()) => Ok(()),
-        Err(_) => Err(NO_MEMORY),
-    }
-}
-
-// Adds a space and a word to a line.
-fn add(line: &mut Vec<u8>, word: &[u8]) -> Result<(), ArgsFault>
-    ensures added { IfOk result (λ _. (is_line_word word.now ≡ true) × (line.new.items ≡ line.old.items ++ 32 ∷ word.now)) }
-    ensures why { IfErr result (λ fault. (fault ≡ Read NoMemory) ⊎ ((fault ≡ NoWord) × (is_line_word word.now ≡ false))) }
-{
-    if !is_line_word(word) {
-        return Err(ArgsFault::NoWord);
-    }
-    append(line, b" ")?;
-    append(line, word)
-}
-
-// A line that is continued by words.
-fn line_by(mut line: Vec<u8>, mut words: IntoIter<String>) -> Result<BookLines, ArgsFault>
-    ensures { GivesLines (line_by line.items (into_iter_items words)) result }
-{
-    'words: while let Some(word) = words.next() {
-        add(&mut line, word.as_bytes())?;
-    }
-    Ok(BookLines::Line(line))
-}
-
-// Whether a line may begin with this word.
-fn begins_line(word: &str) -> bool
-    ensures { result ≡ begins_line word.now }
-{
-    word == "run" || begins_command(word)
-}
-
-// Why no line begins with this word.
-fn no_line(verb: &str) -> ArgsFault
-    ensures { result ≡ no_line verb.now }
-{
-    match verb {
-        "host" | "live" => ArgsFault::NotOfBook,
-        _ => ArgsFault::Usage,
-    }
-}
-
-// A line of one word, to which others are added.
-fn first_word(alloc: Global, verb: &str) -> Result<Vec<u8>, ArgsFault>
-    ensures line { IfOk result (λ line. (begins_line verb.now ≡ true) × (line.items ≡ verb.now)) }
-    ensures why { IfErr result (λ fault. (fault ≡ Read NoMemory) ⊎ ((fault ≡ no_line verb.now) × (begins_line verb.now ≡ false))) }
-{
-    if !begins_line(verb) {
-        return Err(no_line(verb));
-    }
-    let mut line = Vec::new(alloc);
-    append(&mut line, verb.as_bytes())?;
-    Ok(line)
-}
-
 // What a verb asks of a book by itself.
 fn asked_alone(alloc: Global, verb: &str) -> Result<BookLines, ArgsFault>
     ensures { GivesLines (asked_alone verb.now) result }
@@ -148,48 +65,6 @@ fn asked_alone(alloc: Global, verb: &str) -> Result<BookLines, ArgsFault>
     }
     let line = first_word(alloc, verb)?;
     Ok(BookLines::Line(line))
-}
-
-// A line of two words.
-fn line_of_two(alloc: Global, verb: &str, word: String) -> Result<BookLines, ArgsFault>
-    ensures { GivesLines (line_of verb.now (word ∷ [])) result }
-{
-    let mut line = first_word(alloc, verb)?;
-    add(&mut line, word.as_bytes())?;
-    Ok(BookLines::Line(line))
-}
-
-// A line of three words.
-fn line_of_three(
-    alloc: Global,
-    verb: &str,
-    one: String,
-    two: String,
-) -> Result<BookLines, ArgsFault>
-    ensures { GivesLines (line_of verb.now (one ∷ two ∷ [])) result }
-{
-    let mut line = first_word(alloc, verb)?;
-    add(&mut line, one.as_bytes())?;
-    add(&mut line, two.as_bytes())?;
-    Ok(BookLines::Line(line))
-}
-
-// A line of four words or more.
-fn line_of_more(
-    alloc: Global,
-    verb: &str,
-    one: String,
-    two: String,
-    three: String,
-    words: IntoIter<String>,
-) -> Result<BookLines, ArgsFault>
-    ensures { GivesLines (line_of verb.now (one ∷ two ∷ three ∷ into_iter_items words)) result }
-{
-    let mut line = first_word(alloc, verb)?;
-    add(&mut line, one.as_bytes())?;
-    add(&mut line, two.as_bytes())?;
-    add(&mut line, three.as_bytes())?;
-    line_by(line, words)
 }
 
 // A script from a file, or from standard input.
@@ -241,18 +116,42 @@ fn asked_of_more(
     }
 }
 
-// What a verb asks of a book with the words after it.
-fn asked_by(
+// What a verb asks of a book with the words after it, none of which is an option.
+fn asked_of_words(
     alloc: Global,
-    verb: String,
+    verb: &str,
     mut words: IntoIter<String>,
 ) -> Result<BookLines, ArgsFault>
-    ensures { GivesLines (asked_of_book (verb ∷ into_iter_items words)) result }
+    ensures { GivesLines (asked_of_words verb.now (into_iter_items words)) result }
 {
     match (words.next(), words.next()) {
-        (None, _) => asked_alone(alloc, verb.as_str()),
-        (Some(word), None) => asked_of_one(alloc, verb.as_str(), word),
-        (Some(one), Some(two)) => asked_of_more(alloc, verb.as_str(), one, two, words),
+        (None, _) => asked_alone(alloc, verb),
+        (Some(word), None) => asked_of_one(alloc, verb, word),
+        (Some(one), Some(two)) => asked_of_more(alloc, verb, one, two, words),
+    }
+}
+
+// What the words after `live` ask of a book.
+fn live_on_book(words: IntoIter<String>) -> Result<BookLines, ArgsFault>
+    ensures { GivesLines (live_on_book (asked_live (into_iter_items words))) result }
+{
+    let Some(live) = live_of(words) else {
+        return Err(ArgsFault::Usage);
+    };
+    if live.sizes_given {
+        return Err(ArgsFault::NotOfBook);
+    }
+    Ok(BookLines::Live(live))
+}
+
+// What a verb asks of a book with the words after it.
+fn asked_by(alloc: Global, verb: String, words: IntoIter<String>) -> Result<BookLines, ArgsFault>
+    ensures { GivesLines (asked_of_book (verb ∷ into_iter_items words)) result }
+{
+    if verb.as_str() == "live" {
+        live_on_book(words)
+    } else {
+        asked_of_words(alloc, verb.as_str(), words)
     }
 }
 
@@ -307,12 +206,12 @@ fn request_with(
     }
 }
 
-// Whether a line may begin with this word, or a dialogue, or a script with frames: without an option it asks of the book that the
-// environment names, if it names one.
+// Whether a line may begin with this word, or a dialogue, a script with frames, or a live host: without an option it asks of the book
+// that the environment names, if it names one.
 fn is_of_book(word: &str) -> bool
     ensures { result ≡ is_of_book word.now }
 {
-    word == "shell" || word == "host" || begins_line(word)
+    word == "shell" || word == "host" || word == "live" || begins_line(word)
 }
 
 // What words without options ask.

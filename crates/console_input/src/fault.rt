@@ -38,7 +38,8 @@ pub enum ArgsFault {
     Command,
     /// One of those that spell a line for a book is no word: it is empty, or has a space, a tab, `#` or a line feed in it.
     NoWord,
-    /// They ask of a book in a file what there is for none.
+    /// They ask of a book in a file what there is for none: `host` with a script after its frames, or `live` with a number of workers
+    /// or of moments.
     NotOfBook,
     /// The environment names a book by what is not UTF-8.
     BadBook,

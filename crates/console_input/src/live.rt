@@ -3,7 +3,7 @@
 ghost use Rattle.std.specs.Prelude.{◌≡◌, string_bytes};
 ghost use Rattle.std.specs.Vec.Iter.{into_iter_items};
 ghost use Rattle.console_operand.specs.Word.{spelled_by};
-ghost use Rattle.console_input.specs.Live.{option_word, live_options, number_between, device_of, none_given, is_given, set_to, with_option, options_of, with_files, asked_live};
+ghost use Rattle.console_input.specs.Live.{option_word, live_options, number_between, device_of, none_given, is_given, has_sizes, set_to, with_option, options_of, with_files, asked_live};
 
 use console_operand::number::number_of;
 use host_words::is_name;
@@ -40,6 +40,8 @@ pub struct LiveOptions {
 #[derive(Drop)]
 pub struct Live {
     pub options: LiveOptions,
+    /// Whether how many workers or how many moments was given: a host on the book in a file has its own of both.
+    pub sizes_given: bool,
     /// The path of the script that runs first.
     pub setup: String,
     /// The path of the frames that are served then.
@@ -130,6 +132,12 @@ impl Given {
         }
     }
 
+    fn has_sizes(&self) -> bool
+        ensures { result ≡ has_sizes self.now }
+    {
+        self.workers.is_some() || self.journal.is_some()
+    }
+
     // With an option of the value that a word spells.
     fn set(mut self, option: LiveOption, word: String) -> Option<Given>
         ensures { result ≡ set_to self option word }
@@ -182,6 +190,7 @@ impl Given {
         match behind.next() {
             Some(_word) => None,
             None => Some(Live {
+                sizes_given: self.has_sizes(),
                 options: self.options(),
                 setup,
                 frames,

@@ -172,7 +172,7 @@ fn tell_looked<R: Eprint + AllocGlobal>(
 }
 
 /// Tells what [`tell_dry`] tells, of the journal as it is in one call of a desk. If the seat has no calls left it tells nothing.
-pub fn tell_dry_at<R: Eprint + AllocGlobal + Wait, K: MapKind>(
+pub(crate) fn tell_dry_at<R: Eprint + AllocGlobal + Wait, K: MapKind>(
     rt: &R,
     about: &str,
     desk: &Desk<K>,

@@ -10,7 +10,7 @@ use std::alloc::Global;
 
 /// What a line would take out that spells a range, looked at before it is done.
 #[derive(Drop)]
-pub enum RangeTurning {
+pub(crate) enum RangeTurning {
     /// No change, or the line spells no range.
     Nothing,
     /// These changes, the last one first.

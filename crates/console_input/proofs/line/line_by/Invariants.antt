@@ -1,7 +1,7 @@
 use Rattle.std.proofs.Common.{◌≡◌}
 use Rattle.std.specs.Vec.Iter.{into_iter_items, into_iter_len}
 use Rattle.console_input.specs.Book.{line_by}
-use Rattle.console_input.proofs.book.line_by.Given as goal
+use Rattle.console_input.proofs.line.line_by.Given as goal
 
 -- the line so far and the words that are left give what all words give
 abbrev pub invariant-words : goal.invariant-words

@@ -11,6 +11,8 @@ pub const HELP: &str =
   bpfcon -b FILE shell         a dialogue on it
   bpfcon -b FILE host SCRIPT FRAMES
                                a script on it, and then the frames of another file
+  bpfcon -b FILE live [OPTIONS] SETUP FRAMES
+                               a script on it, and then lines while frames are served
   bpfcon host SCRIPT FRAMES    run the script in a file, then serve the frames of another
   bpfcon host SCRIPT FRAMES AFTER
                                and then run the script in a third
@@ -24,7 +26,7 @@ pub const HELP: &str =
 
 -w SECONDS, before or after -b FILE, waits so long if another process has FILE.
 If there is no -b, BPFCON_BOOK in the environment names FILE, but for bpfcon alone,
-live, help and version.
+help and version.
 One command may also be journal log [N], which tells what was done to the host in FILE. A command
 or a line of shell may be journal without FIRST LAST, which takes out each change from serial
 FIRST to LAST, or none.
@@ -35,6 +37,7 @@ The options of live, before its two files, each with its default:
   --repeat N                   N passes over the frames (for ever)
   --journal N                  a journal of N moments, 1 to 1000000 (1000000)
   --dev NAME                   where the frames of a capture come in (eth0)
+On FILE there are --rate, --repeat and --dev alone.
 
 In shell and live, help lists the commands, and help COMMAND tells what one answers.
 Standard error says what is wrong with each line that is refused.
